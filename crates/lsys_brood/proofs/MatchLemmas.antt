@@ -1,8 +1,6 @@
 -- Nodes by their numbers.
 use Rattle.std.proofs.Common.{◌≡◌, ◌≢◌, ◌+◌, ◌≤◌, ◌||◌, ◌&&◌, ℕ, zero, suc, Bool, true, false, not, List, [], ◌∷◌, ◌++◌, length, map, take, slice_get, Option, Some, None, refl, sym, ap, ◌∙◌, arith, inl, inr, subst}
 use Rattle.std.specs.Prelude.{cond, is_some, nat_eq, IsSome}
-use Rattle.std.specs.Map.{lookup}
-use Rattle.std.specs.HashMap.{HashMap, get, hash_map_len}
 use Rattle.std.proofs.Math.Bool.{or-true}
 use Rattle.std.proofs.lemmas.Bool.{cases_eq, eq-eqb, ne_eqb}
 use Rattle.std.proofs.lemmas.Option.{none-some}
@@ -292,11 +290,3 @@ module _ {A : Type 0} where
 pub not_false : (b : Bool) → not b ≡ false → b ≡ true
 not_false true h = refl
 not_false false h = sym h
-
--- a map of nothing finds nothing
-pub nothing_found : {X S : Type 0} (m : HashMap Number X S) (q : Number) → hash_map_len m ≡ 0 → get same_child_number m q ≡ None
-nothing_found {X = X} m q h = by m.entries h
-  where
-    by : (xs : List (Number × X)) → length xs ≡ 0 → lookup (same_child_number q) xs ≡ None
-    by [] e = refl
-    by (x ∷ xs) e = absurd (omega (arith, e))

@@ -33,13 +33,6 @@ apart_push (y ∷ xs) x apart out = (
   apart_push xs x apart.1 (λ h. out (inr h)),
 )
 
-pub found_take : (os : List (Option ℕ)) (i j : ℕ) → WasFound j (take i os) → WasFound j os
-found_take [] zero j h = absurd h
-found_take [] (suc i) j h = absurd h
-found_take (o ∷ os) zero j h = absurd h
-found_take (o ∷ os) (suc i) j (inl e) = inl e
-found_take (o ∷ os) (suc i) j (inr h) = inr (found_take os i j h)
-
 pub found_there : (os : List (Option ℕ)) (i j : ℕ) → slice_get os i ≡ Some (Some j) → WasFound j os
 found_there [] i j h = absurd (none-some (Some j) h)
 found_there (o ∷ os) zero j h = inl (same_Some o (Some j) h)

@@ -35,14 +35,6 @@ adds_none kind node xs n = record {
   once = λ a. tt;
 }
 
-pub adds_one : (kind : ℕ → Type 0) (node : ℕ) (xs : List ℕ) → kind node → AddsOf kind (node ∷ []) xs (xs ++ node ∷ [])
-adds_one kind node xs h = record {
-  added = node ∷ [];
-  is = refl;
-  are = λ k. (λ i. (i, elim i [ inl e ↦ subst kind (sym e) h | inr j ↦ absurd j ]), λ i. i.0);
-  once = λ a. a;
-}
-
 pub adds_start : (kind : ℕ → Type 0) (us xs : List ℕ) → AddsOf kind (take 0 us) xs xs
 adds_start kind us xs = record {
   added = [];

@@ -1,5 +1,5 @@
 -- Whether no modules have other rules is told by the rules of both systems.
-use Rattle.std.proofs.Common.{◌≡◌, ◌⊎◌, ℕ, Bool, true, false, not, ◌&&◌, ◌||◌, ◌==◌, ◌+◌, ◌<◌, List, [], ◌∷◌, length, get_or, drop, map, refl, ap, ap₂, sym, ◌∙◌, inl, inr, bytes_eq, if◌then◌else◌}
+use Rattle.std.proofs.Common.{◌≡◌, ◌⊎◌, ℕ, Bool, true, false, not, ◌&&◌, ◌||◌, ◌==◌, List, [], ◌∷◌, length, refl, ap, ap₂, sym, ◌∙◌, inl, inr, bytes_eq, if◌then◌else◌}
 use Rattle.std.proofs.lemmas.Bool.{eqb-true}
 use Rattle.lsys_syntax.specs.Strings.{ModuleName}
 use Rattle.lsys_syntax.specs.Rules.{Production}
@@ -9,9 +9,6 @@ use Rattle.lsys_spec.specs.Meaning.{any_weight}
 use Rattle.lsys_spec.specs.Equalities.{same_all, same_body}
 use Rattle.lsys_spec.specs.Standings.{free, same_filter}
 use Rattle.lsys_laws.proofs.Aparts.{bytes_eq_true}
-use Rattle.lsys_bodies.specs.declared.rule.Rule.{Rule}
-use Rattle.lsys_bodies.specs.Views.{as_production}
-use Rattle.lsys_bodies.proofs.Loops.{drop-here}
 use Rattle.lsys_candidates.specs.Others.{RulesOf, AreAllAlike, HasOther, are_alike, is_alike_for, all_alike_for}
 
 later : (b c : Bool) → b ≡ true → (b && c) ≡ false → c ≡ false
@@ -98,8 +95,3 @@ told_new r q s a b e f is k =
     ∙ ap (λ (x : RulesOf). all_alike_for x (table_at q.new.schedule x.level) q.new.rules) (sym f) ∙ sym is ∙ k
 
 -- 4. rules that are gone through
-
-pub next_alike : (r : RulesOf) (table : List ℕ) (rs : List Rule) (i : ℕ) (x : Rule) (b : Bool) → i < length rs → x ≡ get_or rs i x → b ≡ is_alike_for r table (as_production x)
-    → all_alike_for r table (map as_production (drop i rs)) ≡ (b && all_alike_for r table (map as_production (drop (i + 1) rs)))
-next_alike r table rs i x b h is e =
-    ap (λ xs. all_alike_for r table (map as_production xs)) (drop-here rs i x h is) ∙ ap (λ a. a && all_alike_for r table (map as_production (drop (i + 1) rs))) (sym e)

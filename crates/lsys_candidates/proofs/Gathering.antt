@@ -91,26 +91,6 @@ still_marked kind before after xs ys g k h = elim (marked_or_not (is_marked afte
   | inr e ↦ absurd (not_both (is_marked before k) h (sym (g.others k (λ i. not_both (is_marked after k) (g.marked k i) e)) ∙ e))
 ]
 
--- found now: it wasn't marked; or not: then it was
-pub gathers_one : (node : ℕ) (before after : List Seat) (xs : List ℕ) → is_marked before node ≡ false → is_marked after node ≡ true
-    → ((k : ℕ) → (k ≡ node → ⊥) → is_marked after k ≡ is_marked before k) → SameSeats before after → KeepsSeats before after
-    → Gathers (λ k. k ≡ node) before after xs (xs ++ node ∷ [])
-gathers_one node before after xs new marked others seats keeps = record {
-  added = node ∷ [];
-  is = refl;
-  apart = (λ h. h, tt);
-  kinds = λ k h. own k h;
-  unmarked = λ k h. ap (is_marked before) (own k h) ∙ new;
-  marked = λ k h. ap (is_marked after) (own k h) ∙ marked;
-  others = λ k n. others k (λ e. n (inl e));
-  seats = seats;
-  keeps = keeps;
-}
-  where
-    own : (k : ℕ) → In k (node ∷ []) → k ≡ node
-    own k (inl e) = e
-    own k (inr h) = absurd h
-
 pub gathers_old : (node : ℕ) (before after : List Seat) (xs : List ℕ) → is_marked before node ≡ true → is_marked after node ≡ true
     → ((k : ℕ) → (k ≡ node → ⊥) → is_marked after k ≡ is_marked before k) → SameSeats before after → KeepsSeats before after
     → Gathers (λ k. k ≡ node) before after xs xs

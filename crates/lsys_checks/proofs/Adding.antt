@@ -156,9 +156,6 @@ pub record Goes (a : FormalNames) (fs : List (List ℕ)) (ps : List Piece) (m : 
   pub place : m.end + length (kinds_of qs) ≡ a.end + length (kinds_of ps)
   pub rest : (b : FormalNames) → Adds m gs qs b → Adds a fs ps b
 
-pub goes-none : (a : FormalNames) (fs : List (List ℕ)) (ps : List Piece) → Goes a fs ps a fs ps
-goes-none a fs ps = record { place = refl; rest = λ b h. h }
-
 pub goes-more : {a m n : FormalNames} (fs gs hs : List (List ℕ)) (ps qs rs : List Piece) → Goes a fs ps m (gs ++ hs) (qs ++ rs) → Adds m gs qs n → Goes a fs ps n hs rs
 goes-more fs gs hs ps qs rs h k = record {
   place = omega (arith, h.place, k.place, count-append qs rs);
@@ -257,7 +254,3 @@ module _ {a : FormalNames} where
 pub left-count : (xs : List Pattern) → 0 < length xs → length (kinds_of (left_pieces (patterns_of xs))) ≡ length (kinds_of (pieces xs)) + 1
 left-count [] l = absurd (omega arith)
 left-count (x ∷ xs) l = omega (arith, count-append (pieces (x ∷ xs)) (blank ∷ token Less ∷ blank ∷ []))
-
-pub right-count : (xs : List Pattern) → 0 < length xs → length (kinds_of (right_pieces (patterns_of xs))) ≡ length (kinds_of (pieces xs)) + 1
-right-count [] l = absurd (omega arith)
-right-count (x ∷ xs) l = omega arith

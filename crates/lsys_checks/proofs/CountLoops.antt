@@ -20,9 +20,6 @@ use Rattle.lsys_checks.proofs.Counted.{counts-on, counts-passed, counts-nothing,
 pub record CountGoes (b : Counts) (ps : List Piece) (m : Counter) (qs : List Piece) : Type 0 where
   pub rest : (result : Result Counter ℕ) → Counting m qs result → CountsOn b ps result
 
-pub goes-none : (c : Counter) (ps : List Piece) → CountGoes (counts_of c) ps c ps
-goes-none c ps = record { rest = λ result h. h }
-
 module _ {b : Counts} {m : Counter} where
   pub goes-more : {o : Counter} (ps qs rs : List Piece) → CountGoes b ps m (qs ++ rs) → Counting m qs (Ok o) → CountGoes b ps o rs
   goes-more ps qs rs h k = record { rest = λ result r. h.rest result (counts-on qs rs k r) }

@@ -1,14 +1,14 @@
 -- Counts of pieces behind one another.
 use Rattle.std.proofs.Common.{◌≡◌, ℕ, ◌+◌, ◌≤◌, ◌<◌, Bool, true, false, ◌||◌, Some, Result, Ok, Err, List, [], ◌∷◌, ◌++◌, length, map, drop, get_or, nat_lt, cond, refl, ap, sym, ◌∙◌, append_assoc, arith}
 use Rattle.std.specs.Prelude.{IfOk}
-use Rattle.std.proofs.lemmas.List.{drop_all, at_drop_more}
+use Rattle.std.proofs.lemmas.List.{at_drop_more}
 use Rattle.std.proofs.lemmas.Bool.Decides.{nat_tests}
 use Rattle.lsys_syntax.specs.Limits.{most_params, most_rule_tokens, most_expression_tokens}
 use Rattle.lsys_syntax.specs.Tokens.{Kind, Colon}
 use Rattle.lsys_syntax.specs.Pieces.{Piece, blank, token, note, a_symbol, a_param, expr_begins, expr_ends}
 use Rattle.lsys_syntax.specs.Strings.{gap}
 use Rattle.lsys_syntax.specs.Checks.{Counts, count_token, passes_limit, many_place}
-use Rattle.lsys_checks.specs.Counting.{counts_with, counts_of, next_passes, inside_passes, IsOneMore, CountsOn, Counting}
+use Rattle.lsys_checks.specs.Counting.{counts_with, next_passes, inside_passes, IsOneMore, CountsOn, Counting}
 use Rattle.lsys_checks.specs.declared.counter.Counter.{Counter}
 
 module _ {b : Counts} where
@@ -91,9 +91,6 @@ pub record InsideOf (c : Counter) (p : ℕ) (n : ℕ) (tokens done : ℕ) : Type
   pub same : (ks : List Kind) → length ks ≡ n → (from : ℕ) (qs : List Piece)
       → many_place (inside_counts c c.tokens p 0) (from + c.tokens) (map token ks ++ qs) ≡ many_place (inside_counts c tokens p done) (from + tokens) (map token (drop done ks) ++ qs)
 
-pub inside-none : (c : Counter) (p n : ℕ) → c.tokens ≤ most_rule_tokens → InsideOf c p n c.tokens 0
-inside-none c p n l = record { few = l; same = λ ks e from qs. refl }
-
 drop-next : (ks : List Kind) (i : ℕ) → i < length ks → drop i ks ≡ get_or ks i Colon ∷ drop (i + 1) ks
 drop-next ks i l = at_drop_more (λ js. js) ks i Colon l
 
@@ -122,15 +119,4 @@ inside-passed c p n tokens done l t h ks e = record {
       ap (many_place (inside_counts c c.tokens p 0) (from + c.tokens)) (append_assoc (map token ks) (note expr_ends ∷ []) qs)
       ∙ inside-step c p n tokens done l h ks e from (note expr_ends ∷ qs)
       ∙ ap (λ b. cond b (Some (from + tokens)) (many_place (inside_counts c (tokens + 1) p (done + 1)) (from + (tokens + 1)) (map token (drop (done + 1) ks) ++ note expr_ends ∷ qs))) t;
-}
-
-pub inside-done : (c d : Counter) (p n tokens done : ℕ) → n ≤ done → counts_of d ≡ record { tokens = tokens; most_tokens = Some most_rule_tokens; expr_tokens = 0; inside = false; symbols = c.symbols; most = c.most; params = p } → InsideOf c p n tokens done
-    → (ks : List Kind) → length ks ≡ n → CountsOn (counts_with c c.symbols p) (note expr_begins ∷ (map token ks ++ note expr_ends ∷ [])) (Ok d)
-inside-done c d p n tokens done l is h ks e = record {
-  few = tt;
-  same = λ from qs.
-      ap (many_place (inside_counts c c.tokens p 0) (from + c.tokens)) (append_assoc (map token ks) (note expr_ends ∷ []) qs)
-      ∙ h.same ks e from (note expr_ends ∷ qs)
-      ∙ ap (λ js. many_place (inside_counts c tokens p done) (from + tokens) (map token js ++ note expr_ends ∷ qs)) (drop_all done ks (omega (arith, e, l)))
-      ∙ ap (λ (b : Counts). many_place b (from + b.tokens) qs) (sym is);
 }

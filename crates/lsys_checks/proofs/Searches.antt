@@ -4,7 +4,7 @@ use Rattle.std.proofs.lemmas.List.{take-map, drop-map, drop_all}
 use Rattle.lsys_syntax.specs.Tokens.{NameText, Kind, Colon, At, Arrow, Comma, LeftParen, RightParen}
 use Rattle.lsys_syntax.specs.Pieces.{Piece, Note, blank, token, note, a_symbol, a_param, successor_begins, expr_ends, kinds_of}
 use Rattle.lsys_syntax.specs.Strings as S
-use Rattle.lsys_syntax.specs.Strings.{more_pieces, params_pieces, symbol_pieces, string_pieces, gap, ends_in_name, begins_with_letter, name_kind}
+use Rattle.lsys_syntax.specs.Strings.{more_pieces, symbol_pieces, string_pieces, gap, ends_in_name, begins_with_letter, name_kind}
 use Rattle.lsys_syntax.specs.Expressions.{Expr, expr_kinds, expr_pieces}
 use Rattle.lsys_syntax.specs.Rules.{option_pieces, successor_pieces}
 use Rattle.lsys_syntax.specs.Checks.{is_unknown, inside_after, unknown_place}
@@ -68,9 +68,6 @@ pub record Passes (x : FormalNames) (n : ℕ) (ts : List Token) (m : ℕ) (us : 
   pub place : m + length us ≡ n + length ts
   pub same : (fs : List (List ℕ)) → Numbered fs x.numbers → (qs : List Piece)
       → unknown_place (map name_of fs) true n (map token (text.kind_row ts) ++ qs) ≡ unknown_place (map name_of fs) true m (map token (text.kind_row us) ++ qs)
-
-pub passes-none : (x : FormalNames) (n : ℕ) (ts : List Token) → Passes x n ts n ts
-passes-none x n ts = record { place = refl; same = λ fs known qs. refl }
 
 module _ {x : FormalNames} {n m : ℕ} (ts us : List Token) (i : ℕ) (t : Token) (l : i < length us) (e : t ≡ get_or us i t) (h : Passes x n ts m (drop i us)) where
   next : Passes x n ts m (t ∷ drop (i + 1) us)
@@ -140,9 +137,6 @@ searches-expr_found {n = n} e ts same h = record {
 pub record SearchGoes (x : FormalNames) (n : ℕ) (ps : List Piece) (m : ℕ) (qs : List Piece) : Type 0 where
   pub place : m + count qs ≡ n + count ps
   pub rest : (result : Result ℕ ℕ) → Searches x m qs result → Searches x n ps result
-
-pub search-none : (x : FormalNames) (n : ℕ) (ps : List Piece) → SearchGoes x n ps n ps
-search-none x n ps = record { place = refl; rest = λ result h. h }
 
 module _ {x : FormalNames} {n m : ℕ} where
   pub search-more : {o : ℕ} (ps qs rs : List Piece) → SearchGoes x n ps m (qs ++ rs) → Searches x m qs (Ok o) → SearchGoes x n ps o rs
@@ -256,11 +250,6 @@ option-count j k (Some e) = refl
 successor-count : (xs : List (S.Symbol Expr)) → count (successor_pieces xs) ≡ count (string_pieces expr_pieces xs)
 successor-count [] = refl
 successor-count (x ∷ xs) = refl
-
-pub searches-option : {x : FormalNames} {n : ℕ} {result : Result ℕ ℕ} (k : Kind) (e : Expr) → Searches x (n + 1) (expr_pieces e) result → Searches x n (option_pieces k (Some e)) result
-searches-option {n = n} k e h =
-    searches-on (blank ∷ []) (token k ∷ blank ∷ expr_pieces e) (searches-blank n)
-    (searches-on (token k ∷ []) (blank ∷ expr_pieces e) (searches-token k n) (searches-on (blank ∷ []) (expr_pieces e) (searches-blank (n + 1)) h))
 
 pub searches-successor : {x : FormalNames} {n : ℕ} {result : Result ℕ ℕ} (xs : List (S.Symbol Expr)) → Searches x (n + 1) (string_pieces expr_pieces xs) result → Searches x n (blank ∷ token Arrow ∷ successor_pieces xs) result
 searches-successor {x = x} {n = n} {result = result} xs h =

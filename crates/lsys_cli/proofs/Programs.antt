@@ -10,7 +10,7 @@ use Rattle.lsys_words.specs.Words.{HasLimit, options_by}
 use Rattle.lsys_words.proofs.Bounds.{bounded}
 use Rattle.lsys_spec.specs.Costs.{Visits}
 use Rattle.lsys_cli.specs.Ends.{OfScript, Ends, IsScriptWithin, RunView, WroteWithin, replies, script_front}
-use Rattle.lsys_cli.specs.Programs.{IsComplete, OfSample, OnSample, OnScript, script_run}
+use Rattle.lsys_cli.specs.Programs.{IsComplete, OnScript, script_run}
 use Rattle.lsys_cli.specs.declared.status.Status.{Status}
 use Rattle.lsys_cli.specs.declared.status.Status.TheVariants.{Done, Refused, Usage, ReadFault, WriteFault, Memory, TooLong}
 
@@ -114,14 +114,6 @@ completes visits words o told left w now status U e h r f =
     at (Some script) (inr k) = complete visits o.limit script left w now status k r f
 
 -- 5. no memory to begin with
-
-pub on_sample : (o : Option Options) (P : Type 0) → P → OnSample o P
-on_sample None P h = tt
-on_sample (Some o) P h = by o.sample
-  where
-    by : (s : Option ℕ) → OfSample s P
-    by None = tt
-    by (Some n) = h
 
 pub on_script : (o : Option Options) (left : Option (List ℕ)) (P : ℕ → List ℕ → Type 0) → ((limit : ℕ) (script : List ℕ) → P limit script) → OnScript o left P
 on_script None left P h = tt

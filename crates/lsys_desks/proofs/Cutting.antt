@@ -9,10 +9,6 @@ use Rattle.lsys_desks.specs.Desks.{Desk, DeskReply, desk_reply_or_memory, desk_f
 
 -- 1. the whole lines of a front are lines of the script
 
--- a byte before lines, of which there is one at least, goes into the first of them
-onto_front : (b : ℕ) (line : List ℕ) (lines more : List (List ℕ)) → onto_first b (line ∷ lines ++ more) ≡ onto_first b (line ∷ lines) ++ more
-onto_front b line lines more = refl
-
 abbrev fed : Bool → ℕ → List (List ℕ) → List (List ℕ)
 fed feeds b lines = if feeds then [] ∷ lines else onto_first b lines
 

@@ -1,5 +1,5 @@
 -- What holds between two tokens while an expression is read, from the first token to the last.
-use Rattle.std.proofs.Common.{◌≡◌, List, [], ◌∷◌, ◌++◌, Option, Some, None, map, refl, ap, ap₂, sym, subst, ◌∙◌, append-nil}
+use Rattle.std.proofs.Common.{◌≡◌, List, [], ◌∷◌, ◌++◌, Option, Some, map, refl, ap, ap₂, sym, subst, ◌∙◌, append-nil}
 use Rattle.std.specs.Option.{IsSome}
 use Rattle.lsys_syntax.specs.Tokens.{NameText, Kind}
 use Rattle.lsys_syntax.specs.Expressions.{Expr, Unary, negated, inverted, only_atom, raised, expr_kinds}
@@ -107,10 +107,6 @@ pub record Reads (fs : List NameText) (e : Expr) (rest : List Kind) (operand : O
   pub operand_is : operand ≡ (reading_of fs state).0
   pub frames_are : frames ≡ (reading_of fs state).1
   pub leads : finished (end_step (run state (map small rest))) ≡ Some e
-
--- before the first token, at each token, and behind it
-pub reads-start : (fs : List NameText) (ts : List Kind) (e : Expr) → read_expr ts ≡ Some e → Reads fs e ts None []
-reads-start fs ts e h = record { state = start_expr no_parens; operand_is = refl; frames_are = refl; leads = h }
 
 next-reading : (fs : List NameText) (e : Expr) (k : Kind) (ks : List Kind) (o : Option Tree) (fr : List OperandFrame) (r : Reads fs e (k ∷ ks) o fr)
     → next_reading fs (small k) o fr ≡ Some (reading_of fs (step r.state (small k)))

@@ -29,12 +29,6 @@ stop-ends s t h e = (e.0, λ n x. ap (λ u. places.extent_behind n s u x) h ∙ 
 done-ends : (s t : m.ExpressionState) → IsDone t → EndsThere s t
 done-ends s t h = (h.0, λ n x. ap (λ u. places.extent_behind n s u x) h.1)
 
--- Where an operand is due.
-pub whole-seen : (ls : List Level) (s : m.ExpressionState) (t : Kind) → IsSeen Operand ls s → BeginsAs begin.Whole t → IsSeen Operator ls (m.step s t)
-whole-seen [] s t h b = elim h [ ]
-whole-seen (l ∷ ls) (m.Due k) t h b = subst (IsSeen Operator (l ∷ ls)) (sym (b.1 k)) h
-whole-seen (l ∷ ls) s t h b = elim h [ ]
-
 pub open-seen : (ls : List Level) (s : m.ExpressionState) (t : Kind) → IsSeen Operand ls s → BeginsAs begin.Parenthesis t → IsSeen Operand (fresh ∷ ls) (m.step s t)
 open-seen [] s t h b = elim h [ ]
 open-seen (l ∷ ls) (m.Due k) t h b = subst (IsSeen Operand (fresh ∷ l ∷ ls)) (sym (b k)) ((refl, refl), h)
@@ -45,11 +39,6 @@ prefix-seen [] s t h b = elim h [ ]
 prefix-seen (l ∷ ls) (m.Due k) t h (inl e) = subst (λ x. IsSeen Operand (with_prefix (l ∷ ls)) (m.due_step x k)) (sym e) ((ap (λ n. n + 1) h.0.0, h.0.1), h.1)
 prefix-seen (l ∷ ls) (m.Due k) t h (inr e) = subst (λ x. IsSeen Operand (with_prefix (l ∷ ls)) (m.due_step x k)) (sym e) ((ap (λ n. n + 1) h.0.0, h.0.1), h.1)
 prefix-seen (l ∷ ls) s t h b = elim h [ ]
-
-pub nothing-seen : (ls : List Level) (s : m.ExpressionState) (t : Kind) → IsSeen Operand ls s → BeginsAs begin.Nothing t → StopsThere s (m.step s t)
-nothing-seen [] s t h b = elim h [ ]
-nothing-seen (l ∷ ls) (m.Due k) t h b = stops-there (m.Due k) (m.step (m.Due k) t) (b k) refl
-nothing-seen (l ∷ ls) s t h b = elim h [ ]
 
 -- Behind an operand: its prefixes and powers end with it.
 wrapped : Unary → m.InUnary → Unary
@@ -148,20 +137,6 @@ end-inside (l ∷ n ∷ ls) (m.Have a k) h i =
     let w : (w : Unary) × (m.after_operand (over m.other) (only_atom a) k ≡ m.after_unary (over m.other) w (term_around k)) = operand-wrapped (over m.other) (only_atom a) k in
     w.1 ∙ ended-inside _ (parens_around k) n ls h.1
 end-inside (l ∷ n ∷ ls) s h i = elim h [ ]
-
-pub end-early : (a : Awaited) (ls : List Level) (s : m.ExpressionState) → (a ≡ Operator → ⊥) → IsSeen a ls s → m.end_step s ≡ m.Stop
-end-early a ls (m.Due k) never h = refl
-end-early Operator ls (m.Have x k) never h = absurd (never refl)
-end-early a ls (m.HalfAnd x k) never h = refl
-end-early a ls (m.HalfOr x k) never h = refl
-end-early a ls (m.Done x) never h = refl
-end-early a ls m.Stop never h = refl
-end-early Operand [] (m.Have x k) never h = elim h [ ]
-end-early Operand (l ∷ ls) (m.Have x k) never h = elim h [ ]
-end-early SecondAnd [] (m.Have x k) never h = elim h [ ]
-end-early SecondAnd (l ∷ ls) (m.Have x k) never h = elim h [ ]
-end-early SecondOr [] (m.Have x k) never h = elim h [ ]
-end-early SecondOr (l ∷ ls) (m.Have x k) never h = elim h [ ]
 
 -- Behind an operand, where the expression doesn't go on.
 pub compare-stops : (ls : List Level) (s : m.ExpressionState) (t : Kind) → IsSeen Operator ls s → FollowsAs follow.Comparison t → is_compared ls ≡ true → is_inside ls ≡ true → StopsThere s (m.step s t)

@@ -29,9 +29,6 @@ pub record Reached (ks : List Kind) (i : ℕ) (a : Awaited) (ls : List Level) : 
   pub kept : IsSeenWithin a ls state
   pub rest : extent ks ≡ extent_from i state (drop i ks)
 
-pub reached-start : (ks : List Kind) (a : Awaited) (ls : List Level) → IsSeenWithin a ls (m.start_expr m.no_parens) → Reached ks 0 a ls
-reached-start ks a ls h = record { state = m.start_expr m.no_parens; kept = h; rest = refl }
-
 -- The token at the place, and what it makes of the extent.
 module _ (ks : List Kind) (i : ℕ) (k : Kind) (a : Awaited) (ls : List Level) (r : Reached ks i a ls) (q : drop i ks ≡ k ∷ drop (i + 1) ks) where
   abbrev next : m.ExpressionState

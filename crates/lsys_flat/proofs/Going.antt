@@ -31,7 +31,7 @@ use Rattle.lsys_flat.specs.Replaced.{IsSymbolAt, IsAsked, IsRecalled, IsReplaced
 use Rattle.lsys_laws.specs.KeptQuestions.{question_here}
 use Rattle.lsys_flat.specs.Slots.{IsFoundOut, slot_by_place, slot_where_told}
 use Rattle.lsys_flat.specs.Rounds.{ShowsLevel, IsAt, AreMadeAt, AreNew, StayMade, Rounded, AskedTo, Replaces, answers_told, entries_of, seen_alone, seen_modules, string_found, fresh_found, taken_found, modules_found, settled, inquiry}
-use Rattle.lsys_flat.proofs.Seen.{symbol_there, alone_plain, counted_seen, row_length}
+use Rattle.lsys_flat.proofs.Seen.{symbol_there, alone_plain, row_length}
 use Rattle.lsys_flat.proofs.Entries.{entries_if, entries_here, read_ok}
 use Rattle.lsys_flat.proofs.News.{all_stay, stay_then, stay_kept, stay_new, told_still, slot_told, slot_before, slot_last, set_last}
 use Rattle.lsys_flat.proofs.Finding.{Recalls, found_stays, found_new, found_same, recalled_same, other_question}

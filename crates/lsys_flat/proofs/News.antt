@@ -1,12 +1,11 @@
 -- New answers, one after another.
-use Rattle.std.proofs.Common.{◌≡◌, ℕ, zero, suc, ◌+◌, ◌≤◌, ◌⊎◌, inl, inr, ◌<◌, Bool, true, false, Option, Some, None, List, [], ◌∷◌, ◌++◌, length, get_or, refl, sym, ap, ◌∙◌, subst, arith, set}
-use Rattle.std.specs.Prelude.{option_map, map}
+use Rattle.std.proofs.Common.{◌≡◌, ℕ, zero, suc, ◌+◌, ◌≤◌, ◌⊎◌, inl, inr, ◌<◌, Option, Some, None, List, [], ◌∷◌, ◌++◌, length, refl, sym, ap, ◌∙◌, subst, arith, set}
+use Rattle.std.specs.Prelude.{option_map}
 use Rattle.lsys_walks.specs.Stores.{Store}
 use Rattle.lsys_match.specs.Kept.{Kept}
-use Rattle.lsys_match.specs.KeptAnswers.{HoldOwnRuns, StaysMade}
+use Rattle.lsys_match.specs.KeptAnswers.{HoldOwnRuns}
 use Rattle.lsys_match.specs.Stored.{answer_in}
 use Rattle.lsys_match.specs.Asks.{IsMade, IsNew, StaysAsKept}
-use Rattle.lsys_match.specs.TagQuestions.{TagAnswer}
 use Rattle.lsys_match.proofs.Staying.{own_runs, stays_kept, stays_new}
 use Rattle.lsys_flat.specs.Slots.{slot_by_place, slot_where_told, filled_slots}
 use Rattle.lsys_flat.specs.Rounds.{AreMadeAt, StayMade, AreNew, answers_told}
@@ -61,12 +60,6 @@ slot_before (a ∷ slots) o (suc q) h = slot_before slots o q (omega (arith, h))
 pub slot_last : {A : Type 0} (slots : List (Option A)) (o : Option A) → slot_by_place (slots ++ o ∷ []) (length slots) ≡ o
 slot_last [] o = refl
 slot_last (a ∷ slots) o = slot_last slots o
-
-pub slot_past : {A : Type 0} (slots : List (Option A)) (o : Option A) (q : ℕ) → length slots < q → slot_by_place (slots ++ o ∷ []) q ≡ None
-slot_past [] o zero h = absurd (omega (arith, h))
-slot_past [] o (suc q) h = refl
-slot_past (a ∷ slots) o zero h = absurd (omega (arith, h))
-slot_past (a ∷ slots) o (suc q) h = slot_past slots o q (omega (arith, h))
 
 pub set_last : {A : Type 0} (slots : List (Option A)) (o : Option A) (p : ℕ) → length slots ≡ p → set (slots ++ None ∷ []) p o ≡ slots ++ o ∷ []
 set_last [] o p h = ap (λ p. set (None ∷ []) p o) (sym h)

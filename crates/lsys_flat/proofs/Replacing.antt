@@ -1,6 +1,6 @@
 -- What replaces a symbol, by what asking answers.
-use Rattle.std.proofs.Common.{◌≡◌, ℕ, ◌+◌, Option, Some, None, Result, Ok, Err, List, [], ◌∷◌, length, refl, sym, ap, ◌∙◌, arith, subst}
-use Rattle.std.specs.Prelude.{ℤ, slice_get, option_map, IfNone, IfSome, MatchOption}
+use Rattle.std.proofs.Common.{◌≡◌, ℕ, Option, Some, None, Result, Ok, Err, List, [], ◌∷◌, length, refl, sym, ap, ◌∙◌, subst}
+use Rattle.std.specs.Prelude.{option_map, IfNone, IfSome, MatchOption}
 use Rattle.std.specs.Option.{IsSomeAnd}
 use Rattle.std.proofs.lemmas.Option.{same_Some}
 use Rattle.lsys_syntax.specs.Strings as S
@@ -15,7 +15,7 @@ use Rattle.lsys_laws.specs.KeptQuestions.{where_grouped, question_here}
 use Rattle.lsys_level.specs.Spots.{Module, Spotted, level_by, seen_by}
 use Rattle.lsys_match.specs.Answered.{CountsEntries}
 use Rattle.lsys_match.specs.Asking.{HasQuestion}
-use Rattle.lsys_match.specs.Asks.{ByDefinition, IsAnswer, IsAnswered, IsNamedAt, KeepsStore, asked_if_any, by_definition, news}
+use Rattle.lsys_match.specs.Asks.{ByDefinition, IsAnswer, IsAnswered, IsNamedAt, KeepsStore, asked_if_any, by_definition}
 use Rattle.lsys_match.specs.Kept.{Kept}
 use Rattle.lsys_match.specs.Stored.{answer_in}
 use Rattle.lsys_match.specs.declared.asked.Asked.{Asked}
@@ -24,7 +24,7 @@ use Rattle.lsys_match.specs.declared.refusal.AskRefusal.{AskRefusal}
 use Rattle.lsys_match.specs.declared.refusal.AskRefusal.TheVariants as refusals
 use Rattle.lsys_walks.specs.Stores.{Store}
 use Rattle.lsys_module.specs.Views.{string_of}
-use Rattle.lsys_flat.specs.Replaced.{IsAsked, IsRecalled, IsSymbolAt, IsReplaced, KeepsFound, found_news, found_of}
+use Rattle.lsys_flat.specs.Replaced.{IsAsked, IsRecalled, IsSymbolAt, IsReplaced, KeepsFound, found_of}
 
 some_and : {A : Type 0} (P Q : A → Type 0) (o : Option A) → ((a : A) → P a → Q a) → IsSomeAnd o P → IsSomeAnd o Q
 some_and P Q None f h = h
@@ -126,12 +126,6 @@ recalled_as naming d store old (Ok None) h = tt
 recalled_as naming d store old (Ok (Some asked.Same)) h = h
 recalled_as naming d store old (Ok (Some (asked.New b))) h = h
 recalled_as naming d store old (Err e) h = tt
-
-pub counted_as : {L : Type 0} (before after : ℕ) (r : Result (Option (Asked L)) AskRefusal) → MatchOption (asked_if_any r) (after ≡ before) (λ r. after ≡ before + news r) → after ≡ before + found_news (found_of r)
-counted_as before after (Ok None) h = omega (arith, h)
-counted_as before after (Ok (Some asked.Same)) h = h
-counted_as before after (Ok (Some (asked.New b))) h = h
-counted_as before after (Err e) h = h
 
 pub kept_as : {L : Type 0} (before after : Store) (old : Option Kept) (r : Result (Option (Asked L)) AskRefusal) → MatchOption (asked_if_any r) (after ≡ before) (KeepsStore before after old) → KeepsFound before after old (found_of r)
 kept_as before after old (Ok None) h = h

@@ -1,16 +1,14 @@
 -- What is seen of a level.
-use Rattle.std.proofs.Common.{◌≡◌, ℕ, suc, ◌+◌, Option, Some, None, Result, Ok, Err, List, [], ◌∷◌, length, refl, sym, ap, ◌∙◌, subst, arith}
-use Rattle.std.specs.Prelude.{ℤ, slice_get, option_map}
-use Rattle.std.proofs.lemmas.Option.{slice_get-map, slice_get_within}
+use Rattle.std.proofs.Common.{◌≡◌, ℕ, suc, Option, Some, None, List, [], ◌∷◌, length, refl, sym, ap, ◌∙◌}
+use Rattle.std.specs.Prelude.{slice_get, option_map}
+use Rattle.std.proofs.lemmas.Option.{slice_get-map}
 use Rattle.lsys_syntax.specs.Strings as S
 use Rattle.lsys_spec.specs.Draws.{key_of}
 use Rattle.lsys_spec.specs.Levels as L
-use Rattle.lsys_spec.specs.Levels.{LevelSymbol, ModuleValue, lineage, plain}
+use Rattle.lsys_spec.specs.Levels.{LevelSymbol, lineage, plain}
 use Rattle.lsys_level.specs.Spots.{Seen, Push, Pop, Module, Spotted, with_lineage, named, level_by, seen_by}
-use Rattle.lsys_match.specs.Asks.{IsNamedAt}
-use Rattle.lsys_flat.specs.Steps.{modules_up_to}
 use Rattle.lsys_flat.specs.Replaced.{IsSymbolAt}
-use Rattle.lsys_flat.specs.Rounds.{ShowsLevel, seen_alone, seen_modules}
+use Rattle.lsys_flat.specs.Rounds.{ShowsLevel, seen_alone}
 
 seen_with : (l : List ℕ) (e : Seen) → seen_by (with_lineage l e) ≡ e
 seen_with l Push = refl
@@ -54,8 +52,3 @@ pub alone_plain : (a : LevelSymbol) → seen_alone (seen_by a) ≡ plain a ∷ [
 alone_plain (L.Push l) = refl
 alone_plain (L.Pop l) = refl
 alone_plain (L.Module l m) = refl
-
-pub counted_seen : (a : LevelSymbol) (n : ℕ) → modules_up_to a n ≡ n + seen_modules (seen_by a)
-counted_seen (L.Push l) n = omega arith
-counted_seen (L.Pop l) n = omega arith
-counted_seen (L.Module l m) n = refl

@@ -1,7 +1,5 @@
 -- Marks of tags that are in use.
-use Rattle.std.proofs.Common.{◌≡◌, ℕ, zero, suc, ◌+◌, ◌<◌, ◌≤◌, Bool, true, false, ◌==◌, ◌||◌, cond, List, [], ◌∷◌, ◌++◌, length, set, refl, sym, ap, ◌∙◌, arith, eq-eqb, length-append}
-use Rattle.std.proofs.lemmas.Bool.{eqb-true}
-use Rattle.std.proofs.lemmas.List.{get_or-set_other, get_or-set_same}
+use Rattle.std.proofs.Common.{◌≡◌, ℕ, zero, suc, ◌+◌, ◌≤◌, Bool, true, false, ◌==◌, ◌||◌, cond, List, [], ◌∷◌, ◌++◌, set, refl, ap, ◌∙◌, arith, eq-eqb, length-append}
 use Rattle.std.proofs.lemmas.List.Sums.{sum_by-cons, sum_by_push}
 use Rattle.lsys_flat.specs.Supplies.{Supply, in_use, tags_used, MarksTag, MarksAll, KeepsMarks}
 use Rattle.lsys_spec.specs.Systems.{Each}
@@ -20,9 +18,6 @@ pub record HasMoreRoom (old new : Supply) : Type 0 where
   pub marks : KeepsMarks old new
   pub same : tags_used new.used ≡ tags_used old.used
 
-pub as_it_was : (s : Supply) → HasMoreRoom s s
-as_it_was s = record { marks = record { used = λ k. refl; next = refl }; same = refl }
-
 none_behind : (used : List Bool) (k : ℕ) → in_use (used ++ false ∷ []) k ≡ in_use used k
 none_behind [] zero = refl
 none_behind [] (suc k) = refl
@@ -34,15 +29,6 @@ one_more old used next h = record {
   marks = record { used = λ k. none_behind used k ∙ h.marks.used k; next = h.marks.next };
   same = sum_by_push (λ b. cond b 1 0) used false ∙ omega (arith, h.same);
 }
-
-pub then_marked : (old : Supply) (used : List Bool) (next tag : ℕ) → HasMoreRoom old (record { used = used; next = next }) → tag < length used → MarksTag tag old (record { used = set used tag true; next = next })
-then_marked old used next tag h l = record { used = λ k. by k (k == tag) refl; few = omega (arith, one_mark used tag, h.same); next = h.marks.next }
-  where
-    by : (k : ℕ) (b : Bool) → k == tag ≡ b → in_use (set used tag true) k ≡ (k == tag) || in_use old.used k
-    by k true e = let i : k ≡ tag = eqb-true k tag e in ap (in_use (set used tag true)) i ∙ get_or-set_same used tag true false l ∙ sym (ap (λ b. b || in_use old.used k) e)
-    by k false e =
-        get_or-set_other used tag k true false (λ i. let t : k == tag ≡ true = eq-eqb k tag i in let no : true ≡ false = sym t ∙ e in cc) ∙ h.marks.used k
-        ∙ sym (ap (λ b. b || in_use old.used k) e)
 
 -- tags one after another
 

@@ -9,9 +9,6 @@ use Rattle.lsys_spec.specs.Levels.{ModuleValue, LevelSymbol, Push, Pop, Module}
 use Rattle.lsys_spec.specs.Meaning.{asked, most_entries}
 use Rattle.lsys_spec.specs.Questions.{Question, question, where_any, questions_from, questions_at, questions_below, is_needed, least_visits}
 
-trace_length : Question → ℕ
-trace_length q = length q.trace
-
 pub least_within : (olds qs : List Question) → least_visits olds qs ≤ sum_by (λ q. length q.trace) qs
 least_within olds [] = omega arith
 least_within olds (q ∷ qs) =

@@ -65,11 +65,6 @@ balanced_told levels (suc most) n (suc t) all h =
     )) (omega (arith, h)) in
     subst (λ b. suc t < length (cond b (levels n ∷ complete_from levels most (suc n)) [])) (sym e) (omega (arith, r))
 
-level_past : (levels : List (List Spotted)) (t : ℕ) → length levels ≤ t → spots_at levels t ≡ []
-level_past [] t h = refl
-level_past (x ∷ levels) zero h = absurd (omega (arith, h))
-level_past (x ∷ levels) (suc t) h = level_past levels t (omega (arith, h))
-
 spot_told : (levels : List (List Spotted)) (t p : ℕ) → IsSpot levels t p → t < length levels
 spot_told [] t p h = absurd (omega (arith, h))
 spot_told (x ∷ levels) zero p h = omega arith

@@ -16,7 +16,7 @@ use Rattle.lsys_bodies.specs.declared.body.Body.{Body}
 use Rattle.lsys_bodies.specs.declared.body.Template.{Template}
 use Rattle.lsys_bodies.specs.Views.{as_production, rule_of, template_symbol}
 use Rattle.lsys_matrix.specs.Capped.{cap, capped, value_of}
-use Rattle.lsys_matrix.specs.Matrices.{place, IsRow, IsMatrix, Square}
+use Rattle.lsys_matrix.specs.Matrices.{place, IsMatrix, Square}
 use Rattle.lsys_matrix.specs.Growth.{letter_count}
 use Rattle.lsys_matrix.specs.Counts.{branch_count, count_at, without_params, given, given_in, given_at, step_matrix}
 use Rattle.lsys_growth.specs.Counting.{count_of_what, AddsCounts, letter_alone, given_for}
@@ -100,12 +100,6 @@ whole_entries s t ns k m es e f r = r.len ∙ ap (λ (x : ℕ). x * suc (length 
 -- the counts of a successor are those of what it gives
 pub bare_added : {P : Type 0} (ns : List ModuleName) (xs : List (S.Symbol P)) (old new : List (Option ℕ)) → AddsCounts ns xs old new → AddsCounts ns (without_params {Q = ℤ} xs) old new
 bare_added ns xs old new a = record { len = a.len; before = a.before; cells = λ j u. a.cells j u ∙ ap capped (sym (bare_at ns j xs)) }
-
-pub first_row : (ns : List ModuleName) (xs : List (S.Symbol ℤ)) (r : List (Option ℕ)) → AddsCounts ns xs [] r → IsRow (suc (length ns)) (λ j. count_at ns j xs) r
-first_row ns xs r a = record {
-  len = let e = a.len in omega (arith, e);
-  places = λ i u. (let o : i ≡ 0 + i = omega arith in ap (place r) o) ∙ a.cells i u;
-}
 
 -- counts so far
 pub record CountsTo {P : Type 0} (ns : List ModuleName) (xs : List (S.Symbol P)) (k : ℕ) (old new : List (Option ℕ)) : Type 0 where

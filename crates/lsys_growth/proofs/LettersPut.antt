@@ -17,7 +17,7 @@ use Rattle.lsys_bodies.specs.declared.body.Body.{Body}
 use Rattle.lsys_bodies.specs.declared.body.Template.{Template}
 use Rattle.lsys_bodies.specs.Views.{as_production, rule_of, template_symbol}
 use Rattle.lsys_matrix.specs.Growth.{all_rule_names, among, letters, most_letters, module_names, rule_names, put_before, put_letters}
-use Rattle.lsys_matrix.proofs.Letters.{letters_longer, letters_more, letter_new, letter_known, put_longer}
+use Rattle.lsys_matrix.proofs.Letters.{letters_longer, letters_more, letter_new, put_longer}
 use Rattle.lsys_growth.specs.Letters.{letter_place, HasPut}
 
 -- 1. a name among names
@@ -78,9 +78,6 @@ place_found n ls =
         omega (arith, e, l, g)
 
 -- 3. one more letter
-
-pub put_known : (ls : List (List ℕ)) (n : ModuleName) → among (map module_name ls) n ≡ true → length ls ≤ most_letters → HasPut (map module_name ls) (n ∷ []) (map module_name ls) true
-put_known ls n h f = (letter_known (map module_name ls) n h, let e = length-map ls module_name in omega (arith, e, f))
 
 pub put_new : (ls : List (List ℕ)) (x : List ℕ) → among (map module_name ls) (module_name x) ≡ false → length ls < most_letters
     → HasPut (map module_name ls) (module_name x ∷ []) (map module_name (insert ls (letter_place (module_name x) (map module_name ls)) x)) true

@@ -13,17 +13,10 @@ use Rattle.lsys_matrix.specs.Capped.{cap, capped}
 use Rattle.lsys_matrix.specs.Sums.{sum_to}
 use Rattle.lsys_matrix.specs.Matrices.{place, IsRow}
 use Rattle.lsys_matrix.proofs.Stopping.{capped_plus, capped_twice, sum_capped}
-use Rattle.lsys_matrix.specs.Growth.{in_class, letters, most_letters, LetterCount, Census, stands, census_within, outside_class, over_letters, over_numbers, growth_at, level_counted, level_on}
+use Rattle.lsys_matrix.specs.Growth.{in_class, letters, most_letters, LetterCount, Census, stands, census_within, over_letters, over_numbers, growth_at, level_counted, level_on}
 use Rattle.lsys_matrix.specs.Counts.{told_length, paired, told_census, counts_after}
 use Rattle.lsys_matrix.proofs.Told.{HasBrackets, level_told}
 use Rattle.lsys_growth.specs.Steps.{IsLevelRow}
-
-pub counted_short : (c : Census) → c.symbols < cap → census_within c ≡ Ok c
-counted_short c h = by (nat_lt c.symbols cap) refl
-  where
-    by : (b : Bool) → nat_lt c.symbols cap ≡ b → (if b then Ok c else Err over_numbers) ≡ Ok c
-    by true e = refl
-    by false e = let f = ltb-false c.symbols cap e in absurd (omega (arith, h, f))
 
 pub counted_long : (c : Census) → cap ≤ c.symbols → census_within c ≡ Err over_numbers
 counted_long c h = by (nat_lt c.symbols cap) refl
@@ -99,16 +92,6 @@ counted_row ns c row r = by (nat_lt (told_length k c) cap) refl
         counted_long (told_census ns (place row)) (great cap (told_length k c) (told_length k (place row)) same l) ∙ sym (counted_long (told_census ns c) l)
 
 -- the answers, in their order
-
-pub told_outside : (s : System) (t : ℕ) → in_class s ≡ false → growth_at s t ≡ Err outside_class
-told_outside s t h = rw h refl
-
-pub told_many : (s : System) (t : ℕ) → in_class s ≡ true → most_letters < length (letters s) → growth_at s t ≡ Err over_letters
-told_many s t h l = rw h (by (nat_lt most_letters (length (letters s))) refl)
-  where
-    by : (b : Bool) → nat_lt most_letters (length (letters s)) ≡ b → (if b then Err over_letters else level_counted (letters s) (level_on s t)) ≡ Err over_letters
-    by true e = refl
-    by false e = let f = ltb-false most_letters (length (letters s)) e in absurd (omega (arith, f, l))
 
 brackets : (s : System) → IsWell s → HasBrackets s
 brackets s w = record { in_axiom = w.1.axiom_balanced; in_successors = each_more (λ p. IsProduction p) (λ p. balanced 0 p.rule.successor ≡ true) s.rules (λ p h. h.rule.successor_balanced) w.1.rules }

@@ -1,10 +1,10 @@
 -- A part of a line that was gathered from what was held and what the source gave.
-use Rattle.std.proofs.Common.{◌≡◌, ℕ, true, false, ◌+◌, ◌-◌, ◌<◌, ◌≤◌, List, [], ◌++◌, length, take, Option, refl, ap, sym, ◌∙◌, arith, length-append, append-nil, append_assoc}
+use Rattle.std.proofs.Common.{◌≡◌, ℕ, true, false, ◌+◌, ◌-◌, ◌<◌, ◌≤◌, List, [], ◌++◌, length, take, Option, ap, sym, ◌∙◌, arith, length-append, append-nil, append_assoc}
 use Rattle.std.proofs.Math.Seq.{take-append-add}
 use Rattle.std.specs.Io.KnownBytes.{Consumes}
-use Rattle.std.proofs.KnownBytes.{Consumes-nil, Consumes-trans}
+use Rattle.std.proofs.KnownBytes.{Consumes-trans}
 use Rattle.lsys_io.specs.declared.gathering.Gathered.{Gathered}
-use Rattle.lsys_io.specs.declared.lines.LineRefusal.TheVariants.{ReadFault, TooLong}
+use Rattle.lsys_io.specs.declared.lines.LineRefusal.TheVariants.{TooLong}
 use Rattle.lsys_io.specs.Feeds.{has_lf}
 use Rattle.lsys_syntax.specs.Limits.{most_line_bytes}
 use Rattle.lsys_io.specs.Gathering.{Absorbs, GathersLine, Stops, feed}
@@ -19,18 +19,6 @@ pub record SoFar (old now : List ℕ) (left_old left_now : Option (List ℕ)) (t
   pub counted : count ≡ length gathered
   pub fits : count ≤ room
   pub kept : count ≤ most_line_bytes → told ≡ gathered
-
-pub so_far_nothing : (pieces : List ℕ) (left : Option (List ℕ)) (room : ℕ) → SoFar pieces pieces left left [] 0 room
-so_far_nothing pieces left room = record {
-  given = [];
-  gathered = [];
-  consumed = Consumes-nil left;
-  split = append-nil pieces;
-  no_lf = refl;
-  counted = refl;
-  fits = omega arith;
-  kept = λ l. refl;
-}
 
 -- the source gave more
 pub so_far_read : (old now next : List ℕ) (left_old left_now left_next : Option (List ℕ)) (told : List ℕ) (count room : ℕ) (given : List ℕ)
@@ -83,17 +71,6 @@ so_far_whole old now after left_old left_now told told_next count room g s a = r
   kept = λ l. a.kept l ∙ ap (λ t. t ++ a.part) (s.kept (omega (arith, a.counted, l)));
 }
 
--- the source ended
-pub so_far_ended : (old : List ℕ) (left_old left_now : Option (List ℕ)) (told : List ℕ) (count room : ℕ) (s : SoFar old [] left_old left_now told count room)
-    → GathersLine (old ++ s.given) [] told room (record { count = count; whole = false })
-so_far_ended old left_old left_now told count room s = record {
-  line = s.gathered;
-  splits = record { no_lf = s.no_lf; split = s.split; rest = λ e. refl };
-  counted = s.counted;
-  fits = omega (arith, s.fits);
-  kept = s.kept;
-}
-
 -- what stands there passes the room
 pub so_far_past : (old now : List ℕ) (left_old left_now : Option (List ℕ)) (told : List ℕ) (count room : ℕ) (s : SoFar old now left_old left_now told count room)
     → (room - count < length now) × (has_lf (take (room - count) now) ≡ false) → Stops (old ++ s.given) room TooLong
@@ -104,13 +81,6 @@ so_far_past old now left_old left_now told count room s h =
       omega (arith, h.0, s.fits, s.counted, ap length s.split, length-append s.gathered now),
       ap has_lf front ∙ no_lf_both s.gathered (take (room - count) now) s.no_lf h.1,
     )
-
--- a read failed where nothing was held
-pub so_far_fault : (old now : List ℕ) (left_old left_now : Option (List ℕ)) (told : List ℕ) (count room : ℕ) (s : SoFar old now left_old left_now told count room)
-    → now ≡ [] → Stops (old ++ s.given) room ReadFault
-so_far_fault old now left_old left_now told count room s none =
-    let whole : old ++ s.given ≡ s.gathered = s.split ∙ ap (λ t. s.gathered ++ t) none ∙ append-nil s.gathered in
-    (ap has_lf whole ∙ s.no_lf, omega (arith, ap length whole, s.counted, s.fits))
 
 -- a piece that was taken whole has no LF
 pub no_lf_taken : (piece after kept_old kept_new : List ℕ) (count room : ℕ) (g : Gathered) → Absorbs piece after kept_old kept_new count room g → g.whole ≡ false

@@ -1,8 +1,8 @@
 -- Runs of answers by their names.
-use Rattle.std.proofs.Common.{◌≡◌, ℕ, Option, Some, None, refl, ap, sym, ◌∙◌}
-use Rattle.std.specs.Prelude.{IsSome, IfSome, option_map}
+use Rattle.std.proofs.Common.{◌≡◌, ℕ, Option, Some, None, refl, ap, sym}
+use Rattle.std.specs.Prelude.{IsSome, option_map}
 use Rattle.lsys_region.specs.Pool.{Pool, list_at, IsLiveRun}
-use Rattle.lsys_walks.specs.Stores.{Store, AreLive, AreGone, OtherTracesStay}
+use Rattle.lsys_walks.specs.Stores.{Store, AreLive, OtherTracesStay}
 use Rattle.lsys_match.specs.Kept.{Kept}
 use Rattle.lsys_match.specs.Stored.{runs_of}
 use Rattle.lsys_kept.specs.Names.{RunName, InTraces, InValues, Entries, Values, run_in, holds}
@@ -20,18 +20,6 @@ all_live s a h = (
   live_one s.traces a.entries (λ n e. some_mapped (λ xs. Entries xs) (list_at s.traces n) (h (InTraces n) e)),
   live_one s.values a.values (λ n e. some_mapped (λ xs. Values xs) (list_at s.values n) (h (InValues n) e)),
 )
-
-pub all_gone : (s : Store) (a : Kept) → AreGone s (runs_of a) → (r : RunName) → holds a r → run_in s r ≡ None
-all_gone s a g (InTraces n) e = ap (option_map (λ xs. Entries xs)) (by a.entries e g.0)
-  where
-    by : (o : Option ℕ) → o ≡ Some n → IfSome o (λ m. list_at s.traces m ≡ None) → list_at s.traces n ≡ None
-    by None i k = cc
-    by (Some m) i k = let f : m ≡ n = cc in ap (list_at s.traces) (sym f) ∙ k
-all_gone s a g (InValues n) e = ap (option_map (λ xs. Values xs)) (by a.values e g.1)
-  where
-    by : (o : Option ℕ) → o ≡ Some n → IfSome o (λ m. list_at s.values m ≡ None) → list_at s.values n ≡ None
-    by None i k = cc
-    by (Some m) i k = let f : m ≡ n = cc in ap (list_at s.values) (sym f) ∙ k
 
 pub others_stay : (old new : Store) (a : Kept) → OtherTracesStay old new (runs_of a) → (r : RunName) → (holds a r → ⊥) → run_in new r ≡ run_in old r
 others_stay old new a h (InTraces n) e = ap (option_map (λ xs. Entries xs)) (h.0 (Some n) (λ i. e (sym i)))

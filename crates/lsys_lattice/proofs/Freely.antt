@@ -1,13 +1,13 @@
 -- The turtle of a picture goes the free way, as far as that doesn't lead too far.
-use Rattle.std.proofs.Common.{◌≡◌, ◌&&◌, not, subst, take, zero, suc, ℕ, Bool, true, false, cond, Option, Some, None, Result, Ok, Err, List, [], ◌∷◌, ◌++◌, map, refl, sym, ap, ◌∙◌}
-use Rattle.std.specs.Prelude.{ℤ, ◌↔◌, flat_map}
+use Rattle.std.proofs.Common.{◌≡◌, ◌&&◌, not, subst, take, zero, suc, ℕ, Bool, true, false, cond, Option, Some, None, Result, Ok, Err, List, [], ◌∷◌, ◌++◌, refl, sym, ap, ◌∙◌}
+use Rattle.std.specs.Prelude.{ℤ, ◌↔◌}
 use Rattle.std.specs.List.{list_all}
 use Rattle.lsys_syntax.specs.Strings as S
 use Rattle.lsys_spec.specs.Lattices.{Lattice, Vector}
-use Rattle.lsys_spec.specs.Pictures.{Act, draws, moves, turns, widens, rests, act, Turtle, Segment, Stepped, is_far, unless_far, acted, turtle_step, modules_to, with_segment, and_on, segments_from}
+use Rattle.lsys_spec.specs.Pictures.{Act, draws, moves, turns, widens, rests, act, Turtle, Segment, Stepped, is_far, acted, turtle_step, modules_to, with_segment, and_on, segments_from}
 use Rattle.lsys_lattice.specs.Effects.{Stand, Walker, walker, walked, done, stepped, drawn_ends, place_reached, symbol_places, ends, places_reached}
 use Rattle.lsys_lattice.specs.Bounds.{gone_on, turtle_after}
-use Rattle.lsys_lattice.specs.Free.{pose_of, turtle_of, leads_far, goes_far, first_far, ends_of}
+use Rattle.lsys_lattice.specs.Free.{turtle_of, leads_far, goes_far, first_far, ends_of}
 
 -- what a step gives: the turtle behind it, and the ends that it draws; or it is too far
 abbrev Goes : Bool → Option Stepped → Turtle → List Vector → Type 0
@@ -137,15 +137,6 @@ reached_near l n w (x ∷ xs) =
     (one_near (goes_far l x w) (all_near (places_reached l xs (stepped l x w))) (modules_to n x) (first_far l (modules_to n x) (stepped l x w) xs) (reached_near l (modules_to n x) (stepped l x w) xs))
 
 -- 5. the turtle behind some symbols
-
-pub turtle_freely : (l : Lattice) (xs : List (S.Symbol ℤ)) (w : Walker) (t : Turtle) → turtle_after l (turtle_of w) xs ≡ Some t → t ≡ turtle_of (walked l xs w)
-turtle_freely l [] w t h = let e : turtle_of w ≡ t = cc in sym e
-turtle_freely l (x ∷ xs) w t h = by (turtle_step l x (turtle_of w)) refl (turtle_freely l xs (stepped l x w) t) h
-  where
-    by : (r : Option Stepped) → turtle_step l x (turtle_of w) ≡ r → (turtle_after l (turtle_of (stepped l x w)) xs ≡ Some t → t ≡ turtle_of (walked l xs (stepped l x w)))
-        → gone_on r (λ u. turtle_after l u xs) ≡ Some t → t ≡ turtle_of (walked l xs (stepped l x w))
-    by None e f k = cc
-    by (Some s) e f k = f (ap (λ (u : Turtle). turtle_after l u xs) (sym (step_freely l x w s e)) ∙ k)
 
 -- where the whole way isn't too far, no front of it is
 some_turtle : (b : Bool) (r : Option Stepped) (t : Turtle) (es : List Vector) → Goes b r t es → b ≡ false → (rest : Turtle → Option Turtle) (u : Turtle) → rest t ≡ Some u → gone_on r rest ≡ Some u

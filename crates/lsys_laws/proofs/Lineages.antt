@@ -11,21 +11,6 @@ pub before_sibling : (a : List ℕ) (i j : ℕ) → i < j → Before (a ++ i ∷
 before_sibling [] i j h = inl h
 before_sibling (x ∷ a) i j h = inr (refl, before_sibling a i j h)
 
-pub before_then : (a b c : List ℕ) → Before a b → Before b c → Before a c
-before_then [] b c h k = elim h [ ]
-before_then (x ∷ a) [] c h k = elim h [ ]
-before_then (x ∷ a) (y ∷ b) [] h k = elim k [ ]
-before_then (x ∷ a) (y ∷ b) (z ∷ c) (inl h) (inl k) = inl (omega (arith, h, k))
-before_then (x ∷ a) (y ∷ b) (z ∷ c) (inl h) (inr k) = inl (omega (arith, h, k.0))
-before_then (x ∷ a) (y ∷ b) (z ∷ c) (inr h) (inl k) = inl (omega (arith, h.0, k))
-before_then (x ∷ a) (y ∷ b) (z ∷ c) (inr h) (inr k) = inr (h.0 ∙ k.0, before_then a b c h.1 k.1)
-
-pub never_before_itself : (a b : List ℕ) → a ≡ b → Before a b → ⊥
-never_before_itself [] b e h = h
-never_before_itself (x ∷ a) [] e h = h
-never_before_itself (x ∷ a) (y ∷ b) e (inl l) = let i : x ≡ y = cc in omega (arith, l, i)
-never_before_itself (x ∷ a) (y ∷ b) e (inr h) = let i : a ≡ b = cc in never_before_itself a b i h.1
-
 -- the last number of a lineage, and the parent's
 pub last_number : (a b : List ℕ) (i j : ℕ) → a ++ i ∷ [] ≡ b ++ j ∷ [] → (a ≡ b) × (i ≡ j)
 last_number [] [] i j e = (refl, cc)

@@ -113,9 +113,6 @@ pub record Filled (ss : List Symbol) (ts ks ms : List ℕ) (i : ℕ) (places : L
   pub fit : AllFit values places
   pub links : (p : ℕ) (a : Place) → slice_get places p ≡ Some a → IsBracket (spotted values a).seen → slice_get ms p ≡ Some a.link
 
-pub none_filled : (ss : List Symbol) (ts ks ms : List ℕ) → Filled ss ts ks ms 0 [] []
-none_filled ss ts ks ms = record { told = refl; fit = tt; links = λ p a h b. cc }
-
 pub filled_on : (ss : List Symbol) (ts ks ms : List ℕ) (i : ℕ) (places : List Place) (values : List ℤ) (s : Symbol) (t k m : ℕ) → Filled ss ts ks ms i places values → length places ≡ i
     → slice_get ss i ≡ Some s → slice_get ts i ≡ Some t → slice_get ks i ≡ Some k → slice_get ms i ≡ Some m → length (params_in s) ≤ 8
     → Filled ss ts ks ms (i + 1) (places ++ kept_place s m (length values) t k ∷ []) (values ++ params_in s)

@@ -149,10 +149,6 @@ counts_err T U n old new x y r e i h = subst (CountsEntries n old new) (sym i) (
     by Memory h = h
     by (Fault k) h = h
 
--- memory is wanting after all was read
-pub counts_late : (T U : Type 0) (n old new : ℕ) (x : Result T AskRefusal) (y : Result U AskRefusal) (a : T) → x ≡ Ok a → y ≡ Err Memory → CountsEntries n old new x → CountsEntries n old new y
-counts_late T U n old new x y a e i h = let k = counts_ok T n old new x a e h in subst (CountsEntries n old new) (sym i) (omega (arith, k), omega (arith, k))
-
 module _ (q : CodePosed) (s : System) (t : ℕ) (row row' : List Spotted) (p : ℕ) (e : row' ≡ row) (sys : filter_of q.filter ≡ filter s t) (posed : IsPosedAt s t row' p (posed_by q)) where
   abbrev d : Posed
   d = posed_by q

@@ -17,9 +17,6 @@ pub record Leads {A : Type 0} (whole rest : Told A) (now : List Entry) : Type 0 
   pub entries : whole.entries ≡ now ++ rest.entries
   pub answer : whole.answer ≡ rest.answer
 
-pub leads_first : {A : Type 0} (t : Told A) → Leads t t []
-leads_first t = record { entries = refl; answer = refl }
-
 module _ {A : Type 0} (whole : Told A) (t : Told Found) (old new : List Entry) where
   pub leads_on : (x : Told A) → Leads whole (followed t x) old → new ≡ old ++ t.entries → Leads whole x new
   leads_on x h e = record { entries = h.entries ∙ sym (append_assoc old t.entries x.entries) ∙ ap (λ es. es ++ x.entries) (sym e); answer = h.answer }

@@ -1,5 +1,5 @@
 -- Which symbols have a question.
-use Rattle.std.proofs.Common.{◌≡◌, ℕ, ℤ, Bor, ◌<◌, List, [], length, slice_get, Option, Some, None, refl, sym, ap, ◌∙◌, arith}
+use Rattle.std.proofs.Common.{◌≡◌, ℕ, ℤ, Bor, ◌<◌, List, length, slice_get, Option, Some, None, refl, sym, ap, ◌∙◌, arith}
 use Rattle.std.specs.Prelude.{option_map}
 use Rattle.std.proofs.lemmas.Option.{same_Some}
 use Rattle.lsys_spec.specs.Systems.{System}
@@ -32,12 +32,6 @@ pub bracketed : (s : System) (t : ℕ) (row : List Spotted) (p : ℕ) (x : Sight
 bracketed s t row p sight.Push n h q = let e = seen_asked s t row p (seen_of sight.Push) h q in cc
 bracketed s t row p sight.Pop n h q = let e = seen_asked s t row p (seen_of sight.Pop) h q in cc
 bracketed s t row p (sight.Module name params) n h q = n name params refl
-
--- there is no rule for it
-pub unruled : (s : System) (t : ℕ) (row : List Spotted) (p : ℕ) (m : ModuleValue) → option_map (λ s. s.seen) (slice_get row p) ≡ Some (Module m) → group s t m.name (length m.params) ≡ [] → HasQuestion s t row p → ⊥
-unruled s t row p m h none q =
-    let own : m ≡ q.here.own = (let e = seen_asked s t row p (Module m) h q in cc) in
-    q.rules (ap (λ (m : ModuleValue). group s t m.name (length m.params)) (sym own) ∙ none)
 
 -- there is one
 pub ruled : (s : System) (t : ℕ) (row : List Spotted) (p : ℕ) (m : ModuleValue) (bs : List Body) → option_map (λ s. s.seen) (slice_get row p) ≡ Some (Module m) → bs ≡ group s t m.name (length m.params) → 0 < length bs → HasQuestion s t row p

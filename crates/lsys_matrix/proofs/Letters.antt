@@ -159,9 +159,6 @@ letters_longer ms (n ∷ ns) = let e = letter_longer ms n in let f = letters_lon
 pub letter_new : (ms : List ModuleName) (n : ModuleName) → among ms n ≡ false → put_letter ms n ≡ put_before n ms
 letter_new ms n h = rw h refl
 
-pub letter_known : (ms : List ModuleName) (n : ModuleName) → among ms n ≡ true → put_letter ms n ≡ ms
-letter_known ms n h = rw h refl
-
 pub letters_more : (ms xs ys : List ModuleName) → put_letters ms (xs ++ ys) ≡ put_letters (put_letters ms xs) ys
 letters_more ms [] ys = refl
 letters_more ms (x ∷ xs) ys = letters_more (put_letter ms x) xs ys

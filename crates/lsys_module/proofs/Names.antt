@@ -1,9 +1,8 @@
 -- The name of a text: it is printed as the text, and a letter tells it from a mark.
-use Rattle.std.proofs.Common.{get_or, ◌≡◌, ℕ, Bool, true, false, List, [], ◌∷◌, ◌==◌, ◌||◌, nat_lt, length, if◌then◌else◌, refl, ap, ◌∙◌, sym, eqb-true, ℤ, arith}
-use Rattle.std.proofs.lemmas.Bool.Decides.{nat_tests}
+use Rattle.std.proofs.Common.{get_or, ◌≡◌, ℕ, Bool, true, false, List, [], ◌∷◌, ◌==◌, ◌||◌, if◌then◌else◌, refl, ap, ◌∙◌, sym, eqb-true}
 use Rattle.std.specs.Prelude.{bytes_eq}
 use Rattle.lsys_syntax.specs.Tokens.{is_letter, short}
-use Rattle.lsys_syntax.specs.Strings.{ModuleName, named, plus, minus, ampersand, caret, backslash, slash, bar, bang, is_letters, ends_in_name, Module}
+use Rattle.lsys_syntax.specs.Strings.{ModuleName, named, plus, minus, ampersand, caret, backslash, slash, bar, bang, is_letters}
 use Rattle.lsys_spec.specs.Systems.{module_name_text, same_name}
 use Rattle.lsys_text.specs.Texts.{IsNameBytes, is_name_mark}
 use Rattle.lsys_module.specs.Views.{short_name, module_name}
@@ -65,10 +64,3 @@ first_letter c (d ∷ more) h = sym h.1.0
 pub first_is_letter : (text : List ℕ) → IsNameBytes text → is_letters (module_name text) ≡ is_letter (get_or text 0 0)
 first_is_letter [] h = elim h [ ]
 first_is_letter (c ∷ more) h = first_letter c more h
-
--- a name with a `_` is one of more than one byte
-pub long_name : (text : List ℕ) → IsNameBytes text → ends_in_name {P = ℤ} (Module (module_name text) []) ≡ nat_lt 1 (length text)
-long_name [] h = elim h [ ]
-long_name (c ∷ []) h =
-    short_name-cases (λ m. ends_in_name {P = ℤ} (Module m []) ≡ false) c (λ e. refl) (λ e. refl) (λ e. refl) (λ e. refl) (λ e. refl) (λ e. refl) (λ e. refl) (λ e. refl) (λ e. refl)
-long_name (c ∷ d ∷ more) h = grind (arith, nat_tests)

@@ -28,9 +28,6 @@ set_behind : (xs : List ℤ) (y v : ℤ) (ys : List ℤ) → set (xs ++ y ∷ ys
 set_behind [] y v ys = refl
 set_behind (x ∷ xs) y v ys = ap (λ zs. x ∷ zs) (set_behind xs y v ys)
 
-pub none_written : (values : List ℤ) → AreWritten values zeros 0
-none_written values = record { front = refl; small = tt }
-
 -- one more value
 pub one_written : (values kept : List ℤ) (i : ℕ) → length values ≤ 8 → i < length values → SFits w64 (get_or values i (pos 0)) → AreWritten values kept i → AreWritten values (set kept i (get_or values i (pos 0))) (i + 1)
 one_written values kept i few h fits is =

@@ -1,10 +1,9 @@
 -- What a printed string is made of, from its front on.
-use Rattle.std.proofs.Common.{◌≡◌, ℕ, ◌+◌, ◌<◌, Bool, true, false, ℤ, pos, negsuc, List, [], ◌∷◌, ◌++◌, length, map, take, drop, get_or, refl, ap, ◌∙◌, sym, append_assoc, append-nil}
+use Rattle.std.proofs.Common.{◌≡◌, ℕ, ◌+◌, ◌<◌, Bool, true, false, List, [], ◌∷◌, ◌++◌, length, map, take, drop, get_or, refl, ap, ◌∙◌, sym, append_assoc, append-nil}
 use Rattle.std.proofs.lemmas.List.{take_more, take-append-drop, map-append}
-use Rattle.std.specs.Fmt.{signed_decimal}
 use Rattle.lsys_syntax.specs.Tokens.{RightParen}
 use Rattle.lsys_syntax.specs.Pieces.{Piece, blank, token, note, token_text, text_of}
-use Rattle.lsys_syntax.specs.Strings.{Symbol, Module, ModuleName, is_letters, gap, ends_in_name, starts_with_letter, begins_with_letter, symbol_pieces, more_pieces, string_pieces, value_pieces}
+use Rattle.lsys_syntax.specs.Strings.{Symbol, Module, ModuleName, is_letters, gap, ends_in_name, starts_with_letter, begins_with_letter, symbol_pieces, more_pieces, string_pieces}
 use Rattle.lsys_spec.specs.Systems.{module_name_text}
 use Rattle.lsys_module.specs.Printing.{gap_text, name_behind, symbol_behind, symbols_behind, params_text, more_text}
 
@@ -13,11 +12,6 @@ text_of-append [] qs = refl
 text_of-append (blank ∷ ps) qs = ap (λ t. 32 ∷ t) (text_of-append ps qs)
 text_of-append (note n ∷ ps) qs = text_of-append ps qs
 text_of-append (token k ∷ ps) qs = ap (λ t. token_text k ++ t) (text_of-append ps qs) ∙ sym (append_assoc (token_text k) (text_of ps) (text_of qs))
-
--- a value is printed as its decimal
-pub value-text : (z : ℤ) → text_of (value_pieces z) ≡ signed_decimal z
-value-text (pos n) = append-nil (signed_decimal (pos n))
-value-text (negsuc n) = append-nil (signed_decimal (negsuc n))
 
 more-text : {P : Type 0} (print : P → List Piece) (xs : List P) → text_of (more_pieces print xs) ≡ more_text print xs
 more-text print [] = refl

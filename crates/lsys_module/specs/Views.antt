@@ -21,10 +21,6 @@ abbrev pub module_name : List ℕ → strings.ModuleName
 module_name (c ∷ []) = short_name c
 module_name text = strings.named (name_of text)
 
--- the module of the definitions that a module stands for
-abbrev pub module_of : CodeModule → strings.Symbol ℤ
-module_of m = strings.Module (module_name m.name) m.params
-
 -- the symbol of the definitions that a symbol stands for
 abbrev pub symbol_of : Symbol → strings.Symbol ℤ
 symbol_of Push = strings.Push

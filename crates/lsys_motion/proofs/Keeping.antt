@@ -1,5 +1,5 @@
 -- What the calls of the keeper do to an image that is underway.
-use Rattle.std.proofs.Common.{◌≡◌, ◌<◌, ◌+◌, ◌^◌, ◌&&◌, ℕ, suc, Bool, true, false, Option, Some, None, List, [], ◌∷◌, ◌++◌, length, length-append, refl, ap, sym, ◌∙◌, subst, nat_lt, arith}
+use Rattle.std.proofs.Common.{◌≡◌, ◌<◌, ◌+◌, ◌^◌, ℕ, suc, true, false, Option, Some, None, List, [], ◌∷◌, ◌++◌, length, refl, ap, sym, ◌∙◌, subst, nat_lt, arith}
 use Rattle.std.specs.Prelude.{ℤ, Contains}
 use Rattle.std.proofs.lemmas.Bool.Decides.{nat_tests}
 use Rattle.lsys_syntax.specs.Strings as S
@@ -8,7 +8,7 @@ use Rattle.lsys_spec.proofs.Tests.{both}
 use Rattle.lsys_lattice.specs.Effects.{first_walker}
 use Rattle.lsys_motion.specs.Keepers.{OpenMark, Keeper, noted, module_done, begun, branch_begun, branch_ended, is_piece, has_piece, heres, HasTaken, StaysNear, empty, IsUnderway, Keeps, IsBusy, CanEndPiece, EndsPiece, HasSome}
 use Rattle.lsys_motion.specs.Trees.{none}
-use Rattle.lsys_motion.proofs.Steps.{IsLast, length-heres, push_taken, cut_taken, module_taken, pop_taken, begun_underway, last_numbered, ended_taken, ended_small, ended_underway, left_taken}
+use Rattle.lsys_motion.proofs.Steps.{IsLast, length-heres, push_taken, cut_taken, module_taken, pop_taken, begun_underway, last_numbered, ended_taken, ended_small, ended_underway}
 
 -- 1. the piece that is open last
 
@@ -68,13 +68,6 @@ end_fewer l old new depth h ends =
 
 -- 2. a symbol
 
-pub few_left : (l : Lattice) (total : List (S.Symbol ℤ)) (x : S.Symbol ℤ) (rest : List (S.Symbol ℤ)) (k : Keeper) → IsUnderway l total (x ∷ rest) k → k.symbols + 1 < 2 ^ 32
-few_left l total x rest k u =
-    let a : length total ≡ length u.front + suc (length rest) = ap length u.is ∙ length-append u.front (x ∷ rest) in
-    let b = u.taken.count in
-    let c = u.taken.few in
-    omega (arith, a, b, c)
-
 pub push_keeps : (l : Lattice) (old mid new : Keeper) → mid ≡ noted old → new ≡ branch_begun mid → Contains (frames l) mid.here.frame → (rest : List (S.Symbol ℤ)) → Keeps l (S.Push ∷ rest) rest old new
 push_keeps l old mid new a b known rest total u =
     subst (λ k. IsUnderway l total rest k) (sym (b ∙ ap branch_begun a))
@@ -114,24 +107,8 @@ ended_whole l total k u = let e : u.front ≡ total = sym (u.is ∙ nothing u.fr
     nothing [] = refl
     nothing (x ∷ xs) = ap (λ ys. x ∷ ys) (nothing xs)
 
-not_piece : (p : Option ℕ) → is_piece p ≡ false → p ≡ None
-not_piece None h = refl
-not_piece (Some i) h = cc
-
-true_and : (a b : Bool) → a ≡ true → a && b ≡ false → b ≡ false
-true_and true b h e = e
-true_and false b h e = cc
-
 positive : (n : ℕ) → nat_lt 0 (suc n) ≡ true
 positive n = grind (arith, nat_tests)
-
--- the last that is open is a branch, which is left
-pub leave_takes : (l : Lattice) (old new : Keeper) (m : OpenMark) (ms : List OpenMark) → old.marks ≡ m ∷ ms → has_piece 0 old.marks ≡ false → new ≡ record old { marks = ms }
-    → (total front : List (S.Symbol ℤ)) → HasTaken l total front old → HasTaken l total front new
-leave_takes l old new m ms is clear e total front t =
-    let c : has_piece 0 (m ∷ ms) ≡ false = ap (has_piece 0) (sym is) ∙ clear in
-    let piece : m.piece ≡ None = not_piece m.piece (true_and (nat_lt 0 (length (m ∷ ms))) (is_piece m.piece) (positive (length ms)) c) in
-    subst (λ k. HasTaken l total front k) (sym e) (left_taken l total front m ms old is piece t)
 
 -- 4. the start
 

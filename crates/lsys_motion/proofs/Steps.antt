@@ -221,17 +221,3 @@ ended_underway l total rest i m ms k is u = record {
   taken = ended_taken l total u.front i m ms k is u.taken;
   there = sym (out_last l i m ms k.here is.piece) ∙ ap (λ ms. outward l ms (walker k.here [])) (sym is.marks) ∙ u.there;
 }
-
-pub left_taken : (l : Lattice) (total front : List (S.Symbol ℤ)) (m : OpenMark) (ms : List OpenMark) (k : Keeper) → k.marks ≡ m ∷ ms → m.piece ≡ None → HasTaken l total front k → HasTaken l total front (record k { marks = ms })
-left_taken l total front m ms k is empty t =
-    let known : AreKnown l (m ∷ ms) = subst (λ ms. AreKnown l ms) is t.known in
-    record {
-      rest = t.rest;
-      front_is = t.front_is;
-      near = t.near;
-      few = t.few;
-      here = sym (ap (λ p. up l ms (through l p m.stand k.here)) empty) ∙ ap (λ ms. up l ms k.here) (sym is) ∙ t.here;
-      holds = held_below l m ms k.pieces (heres l front (first_walker l)) empty (subst (λ ms. Holds l ms k.pieces (heres l front (first_walker l))) is t.holds);
-      count = t.count;
-      known = known.1;
-    }

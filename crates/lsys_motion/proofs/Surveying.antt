@@ -1,5 +1,5 @@
 -- A survey of the segments so far.
-use Rattle.std.proofs.Common.{◌≡◌, Ok, Err, List, [], ◌∷◌, fold, map, refl, ap, sym, ◌∙◌}
+use Rattle.std.proofs.Common.{◌≡◌, Ok, List, [], ◌∷◌, fold, map, refl, ap, sym, ◌∙◌}
 use Rattle.std.specs.Prelude.{ℤ}
 use Rattle.std.specs.Int.{int_min, int_max}
 use Rattle.lsys_spec.specs.Lattices.{Lattice, Vector, vector}
@@ -10,8 +10,7 @@ use Rattle.lsys_lattice.specs.Free.{ends_of}
 use Rattle.lsys_lattice.specs.Bounds.{bounds_of}
 use Rattle.lsys_lattice.specs.Wide.{extents_of}
 use Rattle.lsys_lattice.specs.declared.wide.Extents.{Extents as WideExtents}
-use Rattle.lsys_out.specs.Drawings.{Drawing, IsStopped, empty_drawing, with_first}
-use Rattle.lsys_out.specs.declared.refusal.PictureRefusal.{PictureRefusal}
+use Rattle.lsys_out.specs.Drawings.{Drawing, empty_drawing}
 use Rattle.lsys_motion.specs.Surveys.{AreBoundsOf, with_place, with_ends}
 
 -- one place after another
@@ -45,18 +44,8 @@ surveying_none l whole rest e same start = record {
   refusal = ap (λ (d : Drawing). d.refusal) same;
 }
 
-pub surveying_more : (l : Lattice) (whole rest next : Drawing) (e e' : WideExtents) (g : Segment) → Surveying l whole rest e → rest ≡ with_first g next → extents_of e' ≡ with_ends l (extents_of e) g
-    → Surveying l whole next e'
-surveying_more l whole rest next e e' g h same more = record {
-  bounds = ap (λ (x : Extents). fold (with_ends l) x next.segments) more ∙ ap (λ (d : Drawing). fold (with_ends l) (extents_of e) d.segments) (sym same) ∙ h.bounds;
-  refusal = ap (λ (d : Drawing). d.refusal) (sym same) ∙ h.refusal;
-}
-
 pub surveying_all : (l : Lattice) (whole rest : Drawing) (e : WideExtents) → Surveying l whole rest e → rest ≡ empty_drawing → AreBoundsOf l whole (Ok e)
 surveying_all l whole rest e h same = (
   sym h.refusal ∙ ap (λ (d : Drawing). d.refusal) same,
   ap (λ (d : Drawing). fold (with_ends l) (extents_of e) d.segments) (sym same) ∙ h.bounds,
 )
-
-pub surveying_stopped : (l : Lattice) (whole rest : Drawing) (e : WideExtents) (r : PictureRefusal) → Surveying l whole rest e → IsStopped rest r → AreBoundsOf l whole (Err r)
-surveying_stopped l whole rest e r h s = (s.0, s.1, sym h.refusal ∙ ap (λ (d : Drawing). d.refusal) s.2)

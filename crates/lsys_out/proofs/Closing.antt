@@ -87,9 +87,6 @@ closes_along k n (S.Push ∷ ys) zs b c = let e : suc k + n ≡ k + n + 1 = omeg
 closes_along zero n (S.Pop ∷ ys) zs b c = cc
 closes_along (suc k) n (S.Pop ∷ ys) zs b c = let e : k + n ≡ suc k + n - 1 = omega arith in (omega arith, subst (λ m. Closes m (ys ++ zs)) e (closes_along k n ys zs b c))
 
-closes_none : (n : ℕ) → Closes n []
-closes_none n = tt
-
 told_module : (n : ℕ) (r : Result (List (S.Symbol ℤ)) ImageRefusal) (f : ℕ → Coming) → ((ys : List (S.Symbol ℤ)) → r ≡ Ok ys → S.balanced 0 ys ≡ true) → ((j : ℕ) → Closes n (f j).symbols)
     → Closes n (coming_with r f).symbols
 told_module n (Ok ys) f b c = let e : 0 + n ≡ n = omega arith in subst (λ m. Closes m (ys ++ (f (length ys)).symbols)) e (closes_along 0 n ys (f (length ys)).symbols (b ys refl) (c (length ys)))

@@ -27,14 +27,6 @@ can_step S.Pop xs w h = h.closes.0
 can_step S.Cut xs w h = tt
 can_step (S.Module m ps) xs w h = tt
 
--- and then the others
-pub can_go_on : (x : S.Symbol ℤ) (xs : List (S.Symbol ℤ)) (v w : RoomyTurtle) → CanGo (x ∷ xs) v → length w.turtle.saved ≡ saved_after x (length v.turtle.saved) → w.room ≡ v.room → CanGo xs w
-can_go_on x xs v w h saved room =
-    let n = saved_after x (length v.turtle.saved) in record {
-      closes = subst (λ m. Closes m xs) (sym saved) h.closes.1;
-      room = rw (saved, room) (omega (arith, h.room, le-max_right (length v.turtle.saved) (nesting_from n xs)));
-    }
-
 -- a turtle at the start can go over the last level's image
 pub can_begin : (l : Lattice) (s : System) (levels : List (List Spotted)) (room : ℕ) (i : Coming) (w : RoomyTurtle) → HasLast s levels → image_nesting s levels ≤ room
     → i ≡ last_image s levels → w.turtle ≡ at_start l → w.room ≡ room → CanGo i.symbols w

@@ -1,11 +1,10 @@
 -- A survey of the segments so far.
-use Rattle.std.proofs.Common.{◌≡◌, ◌+◌, Some, None, Ok, Err, length, fold, ap, sym, ◌∙◌, arith}
+use Rattle.std.proofs.Common.{◌≡◌, ◌+◌, Ok, length, fold, ap, sym, ◌∙◌, arith}
 use Rattle.lsys_spec.specs.Lattices.{Lattice, projected}
-use Rattle.lsys_spec.specs.Pictures.{Segment, origin}
+use Rattle.lsys_spec.specs.Pictures.{origin}
 use Rattle.lsys_spec.specs.Pictures as P
-use Rattle.lsys_out.specs.Boxes.{IsSurveyed, box_of, extended_by, extent_at, extent_of, surveyed_with}
-use Rattle.lsys_out.specs.Drawings.{Drawing, IsStopped, empty_drawing, with_first}
-use Rattle.lsys_out.specs.declared.refusal.PictureRefusal.{PictureRefusal}
+use Rattle.lsys_out.specs.Boxes.{IsSurveyed, box_of, extended_by, extent_at, extent_of}
+use Rattle.lsys_out.specs.Drawings.{Drawing, empty_drawing}
 use Rattle.lsys_out.specs.declared.survey.Survey.{Survey}
 use Rattle.lsys_out.proofs.Extents.{box_along}
 
@@ -22,26 +21,9 @@ surveying_none l whole rest s e f = record {
   refusal = ap (λ (d : Drawing). d.refusal) e;
 }
 
-pub surveying_more : (l : Lattice) (whole rest next : Drawing) (s : Survey) (g : Segment) → Surveying l whole rest s → rest ≡ with_first g next → Surveying l whole next (surveyed_with l s g)
-surveying_more l whole rest next s g h e = record {
-  count = omega (arith, h.count, ap (λ (d : Drawing). length d.segments) e);
-  extent = ap (λ (d : Drawing). fold (extended_by l) s.extent d.segments) (sym e) ∙ h.extent;
-  refusal = ap (λ (d : Drawing). d.refusal) (sym e) ∙ h.refusal;
-}
-
 pub surveying_all : (l : Lattice) (whole rest : Drawing) (s : Survey) → Surveying l whole rest s → rest ≡ empty_drawing → IsSurveyed l whole (Ok s)
 surveying_all l whole rest s h e = (
   sym h.refusal ∙ ap (λ (d : Drawing). d.refusal) e,
   omega (arith, h.count, ap (λ (d : Drawing). length d.segments) e),
   ap box_of (ap (λ (d : Drawing). fold (extended_by l) s.extent d.segments) (sym e) ∙ h.extent) ∙ box_along l whole.segments,
 )
-
-pub surveying_stopped : (l : Lattice) (whole rest : Drawing) (s : Survey) (r : PictureRefusal) → Surveying l whole rest s → IsStopped rest r → IsSurveyed l whole (Err r)
-surveying_stopped l whole rest s r h e = (e.0, e.1, sym h.refusal ∙ ap (λ (d : Drawing). d.refusal) e.2)
-
--- a picture that isn't refused doesn't stop
-pub never_stopped : (d : Drawing) (r : PictureRefusal) → d.refusal ≡ None → IsStopped d r → ⊥
-never_stopped d r h e = none_some e.0 (sym h ∙ ap (λ (d : Drawing). d.refusal) e.2)
-  where
-    none_some : (q : P.PictureRefusal) → None ≡ Some q → ⊥
-    none_some q e = cc

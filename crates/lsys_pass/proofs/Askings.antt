@@ -1,5 +1,5 @@
 -- Who may have to be asked on a level that was made.
-use Rattle.std.proofs.Common.{◌≡◌, ◌<◌, ◌≤◌, ◌+◌, ◌^◌, ℕ, true, List, [], ◌∷◌, ◌++◌, length, Some, refl, sym, ap, ◌∙◌, subst, inl, inr, arith}
+use Rattle.std.proofs.Common.{◌≡◌, ◌<◌, ◌+◌, ◌^◌, ℕ, true, List, [], ◌∷◌, ◌++◌, length, Some, refl, sym, ap, ◌∙◌, subst, inl, inr, arith}
 use Rattle.std.specs.Prelude.{option_map, slice_get}
 use Rattle.std.proofs.lemmas.Bool.{cases_lt}
 use Rattle.std.proofs.lemmas.Option.{same_Some}
@@ -29,9 +29,9 @@ use Rattle.lsys_candidates.specs.Candidates.{AsksOn}
 use Rattle.lsys_candidates.specs.Finds.{IsBeside}
 use Rattle.lsys_candidates.specs.Found.{IsOther, IsAmong, SteppingNodes, AreAnswersRight}
 use Rattle.lsys_candidates.specs.Asks.{AddsOf}
-use Rattle.lsys_candidates.specs.Others.{RulesOf, are_alike, AreAllAlike, IsOtherwise}
+use Rattle.lsys_candidates.specs.Others.{RulesOf, are_alike, IsOtherwise}
 use Rattle.lsys_candidates.proofs.Alike.{alike_is}
-use Rattle.lsys_candidates.proofs.Gathering.{marked_or_not, not_both}
+use Rattle.lsys_candidates.proofs.Gathering.{marked_or_not}
 use Rattle.lsys_candidates.proofs.Nodes.{has_asked}
 use Rattle.lsys_candidates.proofs.Readers.{reader_there}
 use Rattle.lsys_candidates.proofs.Spots.{is_in}
@@ -51,18 +51,6 @@ use Rattle.lsys_pass.proofs.Before.{answer_lives, placed, is_below}
 -- all nodes of a level of a pass live
 pub row_lives : (v : PassView) (t : ℕ) → IsPass v → (k : ℕ) → In k (row_of v t) → IsLive v.forest k
 row_lives v t h k i = live_at v.forest t k (AreSound-now v.forest.root (changes_in v.forest) (P.now_in v) h.stored.sound) i
-
-pub others_all : (v : PassView) (t : ℕ) (others : List ℕ) → v.system.depth ≤ t → others ≡ row_of v t → IsOthers v t others
-others_all v t others l e = record { all = λ m. e; unlike = λ m. absurd (omega (arith, l, m)) }
-
-pub others_none : (v : PassView) (t : ℕ) (rules : RulesOf) (others : List ℕ) → t < v.system.depth → rules ≡ rules_on_level v t → AreAllAlike rules → others ≡ [] → IsOthers v t others
-others_none v t rules others l same alike e = record {
-  all = λ m. absurd (omega (arith, l, m));
-  unlike = λ m k. (
-    λ i. absurd (subst (In k) e i),
-    λ i. absurd (let o = i.1 in not_both (are_alike v.system v.next t o.own.name (length o.own.params)) (subst AreAllAlike same alike o.own.name (length o.own.params)) o.rules),
-  );
-}
 
 pub others_some : (v : PassView) (t : ℕ) (rules : RulesOf) (nodes old new others : List ℕ) → t < v.system.depth → rules ≡ rules_on_level v t → nodes ≡ row_of v t → old ≡ [] → others ≡ new
     → AddsOf (IsOtherwise rules (P.now_in v)) nodes old new → IsOthers v t others

@@ -92,11 +92,6 @@ is_resting f st reads seats z system limit w answers stored few unmarked counted
   room = room;
 }
 
--- the forest and the seats are told in other words
-pub same_resting : (f f' : Grove Kept) (st : Store) (reads : Relations) (seats seats' : List Seat) (z : Sizes) (system : System) (limit : ℕ) (w : Work) (answers : ℕ) → f' ≡ f → seats' ≡ seats
-    → IsPass (resting f st reads seats z system limit w answers) → IsPass (resting f' st reads seats' z system limit w answers)
-same_resting f f' st reads seats seats' z system limit w answers e d h = subst IsPass (λ i. resting (sym e i) st reads (sym d i) z system limit w answers) h
-
 -- it came to rest, and no other system is being made
 pub none_next : (f : Grove Kept) (st : Store) (rd : Relations) (seats : List Seat) (z : Sizes) (nx : Option System) (sys : System) (limit : ℕ) (state : PassState) (w : Work) (answers : ℕ) → nx ≡ None → state ≡ Rest
     → IsPass (resting f st rd seats z sys limit w answers) → IsPass (record (resting f st rd seats z sys limit w answers) { next = unwrap_or nx sys; state = state })

@@ -113,10 +113,6 @@ pub tags_if_ok : (v w : PassView) (s : System) (r : Result EditCount DeriveRefus
 tags_if_ok v w s (Ok n) h q h' q' limit ok x y m = keeps_tags v w s h q h' q' ok limit x y m
 tags_if_ok v w s (Err e) h q h' q' limit ok x y m = tt
 
-pub system_if_ok : (v w : PassView) (s : System) (r : Result EditCount DeriveRefusal) → OnOk r (IsEdited v w s) → IfOk r (λ n. w.system ≡ s)
-system_if_ok v w s (Ok n) ok = ok.system
-system_if_ok v w s (Err e) ok = tt
-
 pub same_if_err : (v w : PassView) (r : Result EditCount DeriveRefusal) → IsPass v → v.state ≡ Rest → OnErr r (IsBack v w) → OnErr r (view_of w ≡ view_of v)
 same_if_err v w (Ok n) h q err = tt
 same_if_err v w (Err e) h q err = back_view v w h q err

@@ -1,7 +1,6 @@
 -- An edit by a pass.
-use Rattle.std.proofs.Common.{◌≡◌, ◌≢◌, ℕ, zero, suc, ◌+◌, ◌*◌, ◌-◌, ◌≤◌, ◌<◌, ◌^◌, List, [], ◌∷◌, ◌++◌, length, Option, Some, None, Result, Ok, Err, refl, ap, sym, ◌∙◌, subst, arith, OnErr}
+use Rattle.std.proofs.Common.{◌≡◌, ℕ, zero, suc, ◌+◌, ◌*◌, ◌-◌, ◌≤◌, ◌<◌, ◌^◌, List, [], length, Option, Some, None, Result, Ok, Err, refl, ap, sym, ◌∙◌, subst, arith, OnErr}
 use Rattle.std.specs.Prelude.{IsSome}
-use Rattle.std.proofs.lemmas.List.{length-append}
 use Rattle.lsys_spec.specs.Rows.{In}
 use Rattle.lsys_spec.specs.Systems.{System, WellSpelled}
 use Rattle.lsys_spec.specs.Levels as L
@@ -52,12 +51,6 @@ level_in Failed a = absurd a
 pub is_level : (s : PassState) (t : ℕ) → Level t ≡ s → AtLevel s
 is_level s t e = subst AtLevel e tt
 
-pub no_rest : (s : PassState) → AtLevel s → s ≢ Rest
-no_rest s a e = subst AtLevel e a
-
-pub no_rest_failed : (s : PassState) → s ≡ Failed → s ≢ Rest
-no_rest_failed s e f = let g : Failed ≡ Rest = sym e ∙ f in cc
-
 -- it has begun, and nothing was refused
 abbrev pub IsUnderWay : PassState → Type 0
 IsUnderWay (Level t) = Unit {0}
@@ -77,13 +70,6 @@ under_next s Rest n h = absurd h
 under_next s Done n h = absurd h
 under_next s Failed n h = absurd h
 
--- where it stands at no level it is done
-pub is_done : (s : PassState) → IsUnderWay s → ((t : ℕ) → s ≡ Level t → ⊥) → s ≡ Done
-is_done (Level t) h none = absurd (none t refl)
-is_done Done h none = refl
-is_done Rest h none = absurd h
-is_done Failed h none = absurd h
-
 -- 2. what ends
 
 -- how many levels are still to be asked
@@ -92,29 +78,6 @@ left_of s (Level t) = s.depth - t
 left_of s Rest = 0
 left_of s Done = 0
 left_of s Failed = 0
-
-next_less : (s : System) (t : ℕ) (n : PassState) → t < s.depth → ArrivesAt s (t + 1) n → left_of s n < s.depth - t
-next_less s t (Level u) d h = omega (arith, d, h.0, h.1)
-next_less s t Done d h = omega (arith, d)
-next_less s t Rest d h = absurd h
-next_less s t Failed d h = absurd h
-
-pub level_less : (u v w : PassView) → IsPass u → AtLevel u.state → SameRun u v → v.state ≡ u.state → Finishes v w → left_of w.next w.state < left_of u.next u.state
-level_less u v w h a r s f =
-    let l = level_in u.state a in
-    let x = at u l.0 h l.1 in
-    let next : w.next ≡ u.next = f.run.next ∙ r.next in
-    let follows = subst (λ (z : System). ArrivesAt z (l.0 + 1) w.state) r.next (subst (λ z. Follows v.next z w.state) (s ∙ l.1) f.state) in
-    let less = next_less u.next l.0 w.state x.tree.below follows in
-    let old : left_of u.next u.state ≡ u.next.depth - l.0 = ap (left_of u.next) l.1 in
-    let new : left_of w.next w.state ≡ left_of u.next w.state = ap (λ (z : System). left_of z w.state) next in
-    omega (arith, less, old, new)
-
-pub pending_less : (v w : PassView) (node : ℕ) → StepsOver v w node → length w.pending < length v.pending
-pending_less v w node s =
-    let a : length v.pending ≡ length (s.before ++ node ∷ s.after) = ap length s.pending_old in
-    let b : length w.pending ≡ length (s.before ++ s.after) = ap length s.pending in
-    omega (arith, a, b, length-append s.before (node ∷ s.after), length-append s.before s.after)
 
 -- 3. while the nodes of a level are asked: what the counters rose by was spent
 
@@ -198,20 +161,6 @@ makes_next start u v w a0 a b r0 r q m h level run state k none asks visits rise
       visits = λ z. (let x = m.visits h in let y = finished_visits v w l.0 k (state ∙ l.1) none f z all in omega (arith, x, y, visits));
       from_visits = let x = m.from_visits in omega (arith, x, rise);
     }
-
--- what was asked and read where a call was refused
-pub asks_refused : (start u : PassView) (a0 a b r0 r : ℕ) → Makes start u a0 a r0 r → b + length u.renewed ≤ a + u.limit → a ≤ b → Rises 0 start.limit a0 b
-asks_refused start u a0 a b r0 r m few rise =
-    let x = m.asks in
-    let limit = m.run.limit in
-    record { from = omega (arith, x, rise); to = omega (arith, x, few, limit) }
-
-pub reads_refused : (start u : PassView) (a0 a r0 r q : ℕ) → Makes start u a0 a r0 r → IsPass u → q + spent_visits u ≤ r + most_read * u.limit → r ≤ q → Rises 0 (most_read * start.limit) r0 q
-reads_refused start u a0 a r0 r q m h few rise =
-    let x = m.visits h in
-    let y = m.from_visits in
-    let most : most_read * u.limit ≡ most_read * start.limit = ap (λ n. most_read * n) m.run.limit in
-    record { from = omega (arith, y, rise); to = omega (arith, x, few, most) }
 
 -- or where a level could not be finished, of which all was asked
 pub asks_ended : (start u v : PassView) (a0 a b r0 r : ℕ) → Makes start u a0 a r0 r → AtLevel u.state → SameRun u v → v.state ≡ u.state → IsPass v → b + length u.renewed ≡ a + length v.renewed → Rises 0 start.limit a0 b

@@ -106,17 +106,6 @@ module _ (v : PassView) (t : ℕ) (h : IsPass v) (state : v.state ≡ Level t) (
 
 -- 3. the same, as another view of the pass tells it
 
-pub total_at : (v w : PassView) (t : ℕ) → v ≡ w → IsPass v → w.state ≡ Level t → IsAskedTo (stage_of w) t → total_of v.made ≤ v.limit
-total_at v w t e h state a = total_within v t h (ap (λ (z : PassView). z.state) e ∙ state) (subst (λ (z : PassView). IsAskedTo (stage_of z) t) (sym e) a)
-
-pub over_at : (v w : PassView) (t : ℕ) → v ≡ w → IsPass v → w.state ≡ Level t → IsAskedTo (stage_of w) t → (n : ℕ) → n ≡ symbols_wanted (stage_of w) t → v.limit < total_of v.made + n → meaning w.next w.limit ≡ Err (OverLimit (t + 1))
-over_at v w t e h state a n is l =
-    subst (λ (z : PassView). meaning z.next z.limit ≡ Err (OverLimit (t + 1))) e
-    (over_next v t h (ap (λ (z : PassView). z.state) e ∙ state) (subst (λ (z : PassView). IsAskedTo (stage_of z) t) (sym e) a) n (is ∙ ap (λ (z : PassView). symbols_wanted (stage_of z) t) (sym e)) l)
-
-pub within_at : (v w : PassView) (n : ℕ) → v ≡ w → total_of v.made + n ≤ v.limit → total_of w.made + n ≤ w.limit
-within_at v w n e l = subst (λ (z : PassView). total_of z.made + n ≤ z.limit) e l
-
 -- 4. a level of which all was asked
 
 pub total_asked : (v : PassView) (t : ℕ) → WasAsked v t → total_of v.made ≤ v.limit

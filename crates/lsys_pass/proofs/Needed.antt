@@ -242,9 +242,14 @@ module _ (s : Stage) (t node : ℕ) (n : Node Kept) (front back : List ℕ) (x :
           subst (λ y. IsAnsweredRight s.system t (level_spots (was s) s.root t) s.store b.place node y (answer_at (was s) node)) module_there.seen
           (x.at.rest.answered t b.place node below there_was (record { seen = d.0.seen; tag = node; key = d.0.key }) at) in
           let some = kept_some (group s.system t b.value.name (length b.value.params)) (IsRight s.system t (level_spots (was s) s.root t) s.store b.place node b.value) (answer_at (was s) node) kept (rules_were b) in
-          let now_kept : answer_at s.now node ≡ Some some.0 = (is_open s t node n front back x p there).same ∙ some.1 in
-          let w = is_old some.0 now_kept p there in
-          (some.0, now_kept, w, same_Some (old_question some.0 w) (asked p m) (sym (old_found some.0 w) ∙ found))
+          ends some.0 some.1
+        where
+          ends : (a : Kept) → answer_at (was s) node ≡ Some a
+              → (a : Kept) × (answer_at s.now node ≡ Some a) × (w : WasAnswered s.system t (was s) s.root s.store node a) × (old_question a w ≡ asked p m)
+          ends a was_kept =
+              let e : answer_at s.now node ≡ Some a = (is_open s t node n front back x p there).same ∙ was_kept in
+              let w = is_old a e p there in
+              (a, e, w, same_Some (old_question a w) (asked p m) (sym (old_found a w) ∙ found))
 
   pub new_needed : (p : ℕ) (m : ModuleValue) (st : Store) (b : Kept) → slice_get (level_of s.now s.root t) p ≡ Some (Module (names s.now node) m) → slice_get (level_nodes s.now s.root t) p ≡ Some node
       → (group s.next t m.name (length m.params) ≡ [] → ⊥) → IsNamedAt (names s.now) s.next.seed (level_spots s.now s.root t) p node m → IsAnswerThere s.next t (level_spots s.now s.root t) p node m (answer_in st b)

@@ -41,9 +41,6 @@ no_sum : (f : ℕ → ℕ) (ks : List ℕ) → ((k : ℕ) → In k ks → f k �
 no_sum f [] h = refl
 no_sum f (k ∷ ks) h = let rest = no_sum f ks (λ j i. h j (inr i)) in let one = h k (inl refl) in let c = sum_by-cons f k ks in omega (arith, rest, one, c)
 
-others_of : (ℕ → ℕ) → List ℕ → ℕ → ℕ
-others_of f ps k = cond (has ps k) 0 (f k)
-
 some_sum : (f : ℕ → ℕ) (ks ps : List ℕ) → AreApart ks → AreApart ps → ((p : ℕ) → In p ps → In p ks) → sum_by f ps ≤ sum_by f ks
 some_sum f ks ps a b among =
     let g : ℕ → ℕ = λ k. cond (has ps k) 0 (f k) in

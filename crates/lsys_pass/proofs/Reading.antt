@@ -1,10 +1,8 @@
 -- The pairs of a reader and what it saw.
-use Rattle.std.proofs.Common.{◌≡◌, ◌⊎◌, ◌+◌, ℕ, Bool, true, false, ◌&&◌, ◌||◌, ◌==◌, List, [], ◌∷◌, ◌++◌, take, drop, Option, Some, refl, sym, ap, ◌∙◌, inl, inr, arith, slice_get}
+use Rattle.std.proofs.Common.{◌≡◌, ◌⊎◌, ◌+◌, ℕ, Bool, true, false, ◌&&◌, ◌||◌, ◌==◌, List, [], ◌∷◌, ◌++◌, take, drop, Option, Some, refl, sym, ap, ◌∙◌, inl, inr, arith}
 use Rattle.std.specs.Prelude.{flat_map, ℤ}
 use Rattle.std.proofs.lemmas.Bool.{eqb-true}
-use Rattle.std.proofs.lemmas.List.{append_assoc, append-nil, map-append, take_more}
-use Rattle.std.proofs.lemmas.List.Concat.{flat_map-append}
-use Rattle.std.proofs.lemmas.Option.{get_or_from_slice_get, slice_get_within}
+use Rattle.std.proofs.lemmas.List.{append_assoc}
 use Rattle.lsys_spec.specs.Rows.{In}
 use Rattle.lsys_reads.specs.declared.Pair.{Pair}
 use Rattle.lsys_reads.specs.Relations.{pairs_have}
@@ -17,20 +15,9 @@ use Rattle.lsys_walks.specs.Stores.{Store}
 use Rattle.lsys_match.specs.Kept.{Kept}
 use Rattle.lsys_match.specs.Stored.{listed, entries_in, values_in}
 use Rattle.lsys_kept.specs.Levels.{tags_named, tags_read}
-use Rattle.lsys_pass.specs.Read.{entry_tags, entries_tags, pair_of, pairs_of, ComesBehind}
+use Rattle.lsys_pass.specs.Read.{entry_tags, entries_tags, pairs_of, ComesBehind}
 
 -- 1. entries, one by one
-
-pub pairs_more : (reader : ℕ) (es : List Entry) (i : ℕ) (e : Entry) (old mid new : List Pair) → slice_get es i ≡ Some e
-    → mid ≡ old ++ pairs_of reader (entries_tags (take i es)) → new ≡ mid ++ pairs_of reader (entry_tags e) → new ≡ old ++ pairs_of reader (entries_tags (take (i + 1) es))
-pairs_more reader es i e old mid new there was is =
-    let one : take (i + 1) es ≡ take i es ++ e ∷ [] = take_more es i e (slice_get_within es i e there) ∙ ap (λ x. take i es ++ x ∷ []) (get_or_from_slice_get es i e e there) in
-    let none : entry_tags e ++ [] ≡ entry_tags e = append-nil (entry_tags e) in
-    is ∙ ap (λ l. l ++ pairs_of reader (entry_tags e)) was
-    ∙ append_assoc old (pairs_of reader (entries_tags (take i es))) (pairs_of reader (entry_tags e))
-    ∙ ap (λ l. old ++ l) (sym (map-append (pair_of reader) (entries_tags (take i es)) (entry_tags e))
-    ∙ ap (λ ts. pairs_of reader (entries_tags (take i es) ++ ts)) (sym none)
-    ∙ ap (pairs_of reader) (sym (flat_map-append entry_tags (take i es) (e ∷ []))) ∙ ap (λ l. pairs_of reader (entries_tags l)) (sym one))
 
 pub comes_further : (old mid new more : List Pair) → mid ≡ old ++ more → ComesBehind mid new → ComesBehind old new
 comes_further old mid new more is h = record { more = more ++ h.more; is = h.is ∙ ap (λ l. l ++ h.more) is ∙ append_assoc old more h.more }

@@ -60,9 +60,6 @@ pub record IsDeeperKept (m o : Nodes Kept) (t : ℕ) : Type 0 where
   pub deeper : (k : ℕ) (n : Node Kept) → o k ≡ Some n → t + 1 < n.depth → m k ≡ Some n
   pub none_deeper : (k : ℕ) (n : Node Kept) → m k ≡ Some n → o k ≡ None → n.depth ≤ t + 1
 
-pub deeper_back : (m o : Nodes Kept) (t : ℕ) → KeepsDeeper o m (t + 1) → IsDeeperKept m o t
-deeper_back m o t h = record { kids = h.kids; new_kids = h.new_kids; deeper = h.deeper; none_deeper = h.none_deeper }
-
 -- 3. answers
 
 -- Each node of the level has a new answer, or is one of these, or keeps what it kept.

@@ -33,7 +33,3 @@ told_at (y ∷ []) zero b x l e = ap (λ (n : ℕ). one n) (ap (λ (z : Size). z
 told_at (y ∷ []) (suc i) b x l e = absurd (none-some x e)
 told_at (y ∷ z ∷ ys) zero b x l e = absurd (omega (arith, l))
 told_at (y ∷ z ∷ ys) (suc i) b x l e = ap (λ (zs : List Size). y ∷ zs) (told_at (z ∷ ys) i b x (omega (arith, l)) e)
-
-pub told_open : (xs : List Size) (b : Bool) (x : Size) → slice_get xs (length xs - 1) ≡ Some x → slice_set xs (length xs - 1) (record { symbols = x.symbols; is_open = b }) ≡ with_open xs b
-told_open [] b x e = absurd (none-some x e)
-told_open (y ∷ ys) b x e = told_at (y ∷ ys) (length (y ∷ ys) - 1) b x (omega arith) e

@@ -32,7 +32,6 @@ use Rattle.lsys_pass.specs.declared.state.PassState.TheVariants.{Rest, Level, Do
 use Rattle.lsys_pass.specs.Stages.{IsAtLevel}
 use Rattle.lsys_pass.specs.Passes.{PassView, stage_of, now_in, HoldsAt, IsPass}
 use Rattle.lsys_pass.specs.Moves.{ArrivesAt, Follows, StepsOver, Moves, MovesOnce, Finishes}
-use Rattle.lsys_pass.specs.Beginnings.{Begun}
 use Rattle.lsys_pass.specs.Fresh.{IsReadyToAsk}
 use Rattle.lsys_pass.specs.Spent.{read_at, read_without, visits_here, visits_in, spent_visits, AllPending}
 use Rattle.lsys_pass.proofs.Before.{zero_plus}
@@ -254,9 +253,6 @@ visits_first v Done h e next all =
     ∙ none_first v.system v.next (levels_meant v.system v.limit) v.limit first
 visits_first v Rest h e next all = absurd next
 visits_first v Failed h e next all = absurd next
-
-pub begun_visits : (v w : PassView) (s : System) → Begun v w s → IsPass w → AllPending w w.state → spent_visits w ≡ 0
-begun_visits v w s b h all = visits_first w w.state h refl (subst (λ (z : System). ArrivesAt z 0 w.state) (sym b.next) b.state) all
 
 -- what the pass w has read, that stands behind level t
 visits_next : (w : PassView) (s : PassState) (t : ℕ) → IsPass w → w.state ≡ s → ArrivesAt w.next (t + 1) s → AllPending w w.state

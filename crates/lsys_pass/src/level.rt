@@ -20,7 +20,7 @@ use crate::sizes::Sizes;
 use lsys_brood::{Brood, Changes, Need};
 use lsys_candidates::LevelRules;
 use lsys_forest::{Forest, Kept};
-use lsys_front::law_of_forests;
+use lsys_front::{Front, law_of_forests};
 use lsys_kept::KeptAnswer;
 use lsys_repair::{Parent, make_children};
 use lsys_rules::System;
@@ -64,7 +64,7 @@ impl<L: Ledger> Pass<L> {
     {
         let system = target(&self.next, &self.system);
         let next = level.saturating_add(1);
-        let many = parents.len();
+        let many = many_above(parents, &self.work.front);
         let busy = is_busy(
             alloc,
             &self.system,
@@ -122,8 +122,9 @@ fn make_below<L: Ledger>(
 }
 
 /// Whether so many nodes of a level are looked at that it pays to link it. A level is walked along where it is asked and was not,
-/// or was asked and is not, or has other rules than at the last rest. And each of so many parents on the level above may lead to
-/// climbs that take as many steps as there are levels, there and back. It costs steps by the number of levels, and of rules.
+/// or was asked and is not, or has other rules than at the last rest. And each of so many nodes of the level above, which have
+/// other children or other neighbours, may lead to climbs that take as many steps as there are levels, there and back. It costs
+/// steps by the number of levels, and of rules.
 ///
 /// # Errors
 ///
@@ -134,11 +135,11 @@ fn is_busy(
     new: &System,
     sizes: &Sizes,
     level: u32,
-    parents: usize,
+    many: usize,
     symbols: usize,
 ) -> Result<bool, AllocError> {
     let is_asked = level < new.depth();
-    let climbs = parents.saturating_mul(2).saturating_mul(level as usize);
+    let climbs = many.saturating_mul(2).saturating_mul(level as usize);
     if is_asked != (level < old.depth()) || climbs >= total_with(sizes, symbols) {
         return Ok(true);
     }
@@ -147,6 +148,11 @@ fn is_busy(
     }
     let mut rules = LevelRules::new(alloc, old, new, level)?;
     Ok(!rules.are_all_alike()?)
+}
+
+/// How many nodes of a level have other children, or turned: these parents, and those that its front tells.
+fn many_above(parents: &[Parent], front: &Front) -> usize {
+    parents.len().saturating_add(front.turned.len())
 }
 
 /// How many symbols the levels have that were made, and a next one of so many.

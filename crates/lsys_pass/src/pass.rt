@@ -1,5 +1,6 @@
 //! The pass.
-ghost use Rattle.std.specs.Prelude.{◌≡◌, ◌+◌, ◌-◌, ◌<◌, ◌≢◌, [], length, slice_get, Some, MatchOption, IfOk, OnOk, OnErr};
+ghost use Rattle.std.specs.Prelude.{◌≡◌, ◌+◌, ◌-◌, ◌<◌, ◌≢◌, [], ℕ, false, length, slice_get, Some, MatchOption, IfOk, OnOk, OnErr};
+ghost use Rattle.lsys_kept.specs.Seats.{HasSeat, is_marked};
 ghost use Rattle.lsys_spec.specs.Rows.{In};
 ghost use Rattle.lsys_spec.specs.Systems.{opening};
 ghost use Rattle.lsys_spec.specs.Questions.{questions};
@@ -116,16 +117,16 @@ impl<L: Ledger> Pass<L> {
         ensures system { IfOk result (λ p. p.system ≡ opening) }
         ensures limit { IfOk result (λ p. p.limit ≡ limit) }
     {
+        let system = System::opening(alloc)?;
         let forest = Forest::new(alloc)?;
-        let mut seats = Seats::new(alloc);
-        seats.make_room(forest.root())?;
+        let seats = seat_alone(alloc, forest.root())?;
         Ok(Pass {
             forest,
             store: AnswerStore::new(alloc),
             reads: Reads::new(alloc),
             seats,
             sizes: Sizes::new(alloc),
-            system: System::opening(alloc)?,
+            system,
             next: None,
             limit,
             state: PassState::Rest,
@@ -274,4 +275,18 @@ impl<L: Ledger> Pass<L> {
         work.clear();
         *state = PassState::Rest;
     }
+}
+
+/// Seats with one for this node, which tells of nobody.
+///
+/// # Errors
+///
+/// Want of memory.
+fn seat_alone(alloc: Global, node: NodeId) -> Result<Seats, AllocError>
+    ensures clear { IfOk result (λ seats. (k : ℕ) → is_marked seats k ≡ false) }
+    ensures seat { IfOk result (λ seats. HasSeat seats node) }
+{
+    let mut seats = Seats::new(alloc);
+    seats.make_room(node)?;
+    Ok(seats)
 }

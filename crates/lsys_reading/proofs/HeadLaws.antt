@@ -3,7 +3,7 @@ use Rattle.std.proofs.Common.{◌≡◌, ◌⊎◌, inl, inr, arith, ◌<◌, �
 use Rattle.lsys_syntax.specs.Tokens.{NameText, Kind, Less, Greater, Colon, At, Arrow}
 use Rattle.lsys_syntax.specs.Strings.{ModuleName, named, plus, minus, ampersand, caret, backslash, slash, bar, bang, name_kind, Symbol, Module, Push, Pop, Cut}
 use Rattle.lsys_syntax.specs.RuleMachine as machine
-use Rattle.lsys_syntax.specs.RuleMachine.{production, homomorphism, Part, at_first, at_predecessor, at_right, Head, RuleState, Formals, Stop, reversed, reversed_onto, open_in, where_closed, only_production, left_ends, predecessor_ends, start}
+use Rattle.lsys_syntax.specs.RuleMachine.{production, homomorphism, Part, at_first, at_predecessor, at_right, Head, RuleState, Formals, Stop, reversed, reversed_onto, open_in, where_closed, only_production, left_ends, predecessor_ends}
 use Rattle.lsys_module.specs.Views.{module_name}
 use Rattle.lsys_reading.specs.declared.glyph.Glyph.{Glyph}
 use Rattle.lsys_reading.specs.declared.glyph.Glyph.TheVariants as glyphs
@@ -25,9 +25,6 @@ use Rattle.lsys_reading.proofs.Reversals.{reversed-twice, nil-append}
 -- a `<` there leads nowhere
 abbrev pub NoLess : machine.Form → List Kind → ℕ → Part → List (Symbol NameText) → Type 0
 NoLess m ks at p r = (rest : List Kind) → drop at ks ≡ Less ∷ rest → only_production m (left_ends p r) ≡ Stop
-
-abbrev pub NoGreater : machine.Form → List Kind → ℕ → Type 0
-NoGreater m ks at = (rest : List Kind) (s : RuleState) → drop at ks ≡ Greater ∷ rest → only_production m s ≡ Stop
 
 no-stop : (m : machine.Form) (s : RuleState) → s ≡ Stop → only_production m s ≡ Stop
 no-stop production s h = h
@@ -169,12 +166,6 @@ less-taken (glyphs.Sign x) h t = no-mark Less refl x h
 less-taken glyphs.End h t = h
 less-taken g h t = cc
 
-greater-taken : (g : Glyph) → IsGlyph g Greater → takes_right Production g ≡ false → ⊥
-greater-taken (glyphs.Letters x) h t = let no = h.0 in cc
-greater-taken (glyphs.Sign x) h t = no-mark Greater refl x h
-greater-taken glyphs.End h t = h
-greater-taken g h t = cc
-
 first-cons : (xs : List Pattern) (y : Symbol NameText) (r : List (Symbol NameText)) → left_ends at_first (reversed_onto (map symbol_read xs) (y ∷ r)) ≡ Formals (at_predecessor (reversed (reversed_onto (map symbol_read xs) (y ∷ r)))) []
 first-cons [] y r = refl
 first-cons (x ∷ xs) y r = first-cons xs (symbol_read x) (y ∷ r)
@@ -207,16 +198,6 @@ pub right-goes : (f : Form) (ks : List Kind) (at : ℕ) (l : List (Symbol NameTe
 right-goes Production ks at l n fs glyphs.Greater h t = (refl, leads-token production ks at h.0 (after_predecessor l n fs) h.1 (Formals (at_right l n fs) []) (ap (λ k. predecessor_step production k l n fs) h.2) (λ i v. refl))
 right-goes Production ks at l n fs g h t = cc
 right-goes Homomorphism ks at l n fs g h t = cc
-
-pub right-not : (f : Form) (ks : List Kind) (at : ℕ) (l : List (Symbol NameText)) (n : ModuleName) (fs : List NameText) (g : Glyph) → IsPeeked ks at g → takes_right f g ≡ false
-    → verdict_at (form_in f) ks at (after_predecessor l n fs) ≡ verdict_at (form_in f) ks at (after_head (head_with l n fs []))
-right-not f ks at l n fs g h t = by f t (drop at ks) refl
-  where
-    by : (f : Form) → takes_right f g ≡ false → (rest : List Kind) → drop at ks ≡ rest → point_from (form_in f) at (after_predecessor l n fs) rest ≡ point_from (form_in f) at (after_head (head_with l n fs [])) rest
-    by f t [] d = refl
-    by Homomorphism t (Greater ∷ rest) d = refl
-    by Production t (Greater ∷ rest) d = absurd (greater-taken g (seen ks at g Greater rest h d) t)
-    by f t (k ∷ rest) d = refl
 
 closed-head : (l : List (Symbol NameText)) (n : ModuleName) (fs : List NameText) (r : List (Symbol NameText)) → is_empty r ≡ false → open_in r ≡ 0 → machine.head_of (at_right l n fs) r ≡ Some (head_with l n fs (reversed r))
 closed-head l n fs [] h e = cc

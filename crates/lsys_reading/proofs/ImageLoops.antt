@@ -6,7 +6,7 @@ use Rattle.lsys_syntax.specs.Tokens.{Kind, Word, LongWord, Number, BigNumber, Eq
 use Rattle.lsys_syntax.specs.Strings.{ModuleName, named, plus, minus, ampersand, caret, backslash, slash, bar, bang, name_kind, Symbol, Module, Pop, Cut}
 use Rattle.lsys_syntax.specs.Expressions.{Expr}
 use Rattle.lsys_syntax.specs.RuleMachine as machine
-use Rattle.lsys_syntax.specs.RuleMachine.{production, homomorphism, Premise, RuleState, Successor, Stop, reversed, open_in, popped, where_closed, rule_with}
+use Rattle.lsys_syntax.specs.RuleMachine.{Premise, RuleState, Successor, Stop, reversed, open_in, popped}
 use Rattle.lsys_module.specs.Views.{module_name}
 use Rattle.lsys_reading.specs.declared.refusal.PartRefusal.{PartRefusal}
 use Rattle.lsys_reading.specs.declared.refusal.PartRefusal.TheVariants.{Token}
@@ -67,17 +67,9 @@ not-popped : (n i : ℕ) (s : RuleState) → n ≡ i → nat_lt 0 n ≡ false �
 not-popped n zero s e h = refl
 not-popped n (suc i) s e h = absurd (grind (arith, nat_tests))
 
-popped-is : (n i : ℕ) (s : RuleState) → n ≡ i → nat_lt 0 n ≡ true → popped i s ≡ s
-popped-is n zero s e h = absurd (grind (arith, nat_tests))
-popped-is n (suc i) s e h = refl
-
 no-cut : (f : Form) (s : RuleState) → has_cuts f ≡ false → machine.only_production (form_in f) s ≡ Stop
 no-cut Production s h = cc
 no-cut Homomorphism s h = refl
-
-cut-is : (f : Form) (s : RuleState) → has_cuts f ≡ true → machine.only_production (form_in f) s ≡ s
-cut-is Production s h = refl
-cut-is Homomorphism s h = cc
 
 module _ (f : Form) (n : ℕ) (ks : List Kind) (at : ℕ) (b : Premise) (r : List (Symbol Expr)) (counted : n ≡ open_in r) where
   -- no symbol begins there

@@ -111,10 +111,6 @@ pub record TablesSoFar (ks : List Kind) (at : ℕ) (ws : List (List ℕ)) : Type
   pub within : at ≤ length ks
   pub read : line_at ks 1 ScheduleDue ≡ line_at ks at (InSchedule (reversed ws))
 
--- the first one
-pub tables-begin : (ks : List Kind) (w : List ℕ) → IsWord ks 1 (Ok w) → TablesSoFar ks 2 (w ∷ [])
-tables-begin ks w h = record { within = h.0; read = token-goes ks 1 ScheduleDue (Word w) (InSchedule (w ∷ [])) h refl (record { goes = refl; flat = refl }) }
-
 module _ (ks : List Kind) (at : ℕ) (ws : List (List ℕ)) (so : TablesSoFar ks at ws) where
   pub tables-more : (w : List ℕ) → IsWord ks at (Ok w) → TablesSoFar ks (at + 1) (ws ++ w ∷ [])
   tables-more w h = record {

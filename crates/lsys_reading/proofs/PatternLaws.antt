@@ -46,10 +46,6 @@ no-paren glyphs.Other k h e = other-no-paren k h
 no-paren glyphs.End k h e = elim h [ ]
 no-paren g k h e = ap is_paren h
 
-same-unless-paren : (m : Form) (k : Kind) (p : Part) (r : List (Symbol NameText)) → is_paren k ≡ false → formals_step m k p r ≡ symbol_step m k p r
-same-unless-paren m LeftParen p r h = cc
-same-unless-paren m k p r h = refl
-
 -- a symbol that takes none
 pub shut : (m : Form) (ks : List Kind) (at : ℕ) (p : Part) (r : List (Symbol NameText)) → formals_open p r ≡ Stop → verdict_at m ks at (at_state (Formals p r)) ≡ verdict_at m ks at (after_symbol p r)
 shut m ks at p r e = by (drop at ks)
@@ -153,14 +149,6 @@ not-popped Alone b i production (at_predecessor l) t h e n = refl
 not-popped Alone b i homomorphism at_first t h e n = refl
 not-popped First b i production at_first t h e n = refl
 not-popped s b i m p t h e n = elim h [ ]
-
-popped-is : (s : Section) (b i : ℕ) (m : Form) (p : Part) (t : RuleState) → IsSection s m p → b ≡ i → (is_right s && nat_lt 0 b) ≡ true → only_right p (popped i t) ≡ t
-popped-is Right b (suc i) production (at_right l y fs) t h e n = refl
-popped-is Right b zero production (at_right l y fs) t h e n = absurd (grind (arith, nat_tests))
-popped-is Alone b i production (at_predecessor l) t h e n = cc
-popped-is Alone b i homomorphism at_first t h e n = cc
-popped-is First b i production at_first t h e n = cc
-popped-is s b i m p t h e n = elim h [ ]
 
 module _ (m : Form) (ks : List Kind) (at : ℕ) (p : Part) (r : List (Symbol NameText)) (st : Standing) (stands : IsStanding st m p r) where
   -- no symbol begins there

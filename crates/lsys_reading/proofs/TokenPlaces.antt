@@ -1,10 +1,10 @@
 -- The kinds of tokens, from a place on.
 use Rattle.lsys_reading.specs.declared.glyph.Glyph.{Glyph}
 use Rattle.lsys_reading.specs.declared.glyph.Glyph.TheVariants.{End}
-use Rattle.std.proofs.Common.{subst, ◌≡◌, ◌+◌, ℕ, zero, suc, ◌<◌, ◌≤◌, Option, Some, None, List, [], ◌∷◌, take, drop, length, map, get_or, Bor, ◌-◌, refl, ap, sym, ◌∙◌, add-one, arith}
+use Rattle.std.proofs.Common.{subst, ◌≡◌, ◌+◌, ℕ, zero, suc, ◌<◌, ◌≤◌, Option, Some, None, List, [], ◌∷◌, drop, length, map, get_or, Bor, ◌-◌, refl, ap, sym, add-one, arith}
 use Rattle.std.specs.Prelude.{IfSome, MatchOption}
 use Rattle.std.specs.List.{HoldsAt}
-use Rattle.std.proofs.lemmas.List.{drop_all, length-drop, take_all}
+use Rattle.std.proofs.lemmas.List.{drop_all}
 use Rattle.lsys_spec.specs.Refusals.{column_at}
 use Rattle.lsys_text.specs.Tokens.{kind_of, kind_row, token_of}
 use Rattle.lsys_text.specs.declared.token_kind.Token.{Token}
@@ -33,16 +33,6 @@ pub found : (ts : List Token) (at : ℕ) (o : Option (Bor Token)) → IfSome o (
     → MatchOption o (drop at (kind_row ts) ≡ []) (λ t. Here (kind_row ts) at (kind_of t.now.kind))
 found ts at None e h = none-here ts at h
 found ts at (Some x) e h = token-here ts at x.now h.0 e
-
--- the tokens behind some
-pub drop-kinds : (n : ℕ) (ts : List Token) → kind_row (drop n ts) ≡ drop n (kind_row ts)
-drop-kinds zero ts = refl
-drop-kinds (suc n) [] = refl
-drop-kinds (suc n) (t ∷ ts) = drop-kinds n ts
-
--- a part that reaches to the end
-pub rest-kinds : (n : ℕ) (ts : List Token) → kind_row (take (length ts - n) (drop n ts)) ≡ drop n (kind_row ts)
-rest-kinds n ts = ap kind_row (take_all (length ts - n) (drop n ts) (omega (arith, length-drop n ts))) ∙ drop-kinds n ts
 
 -- a token of a line
 form-at : (ks : List Kind) (at : ℕ) (k : Kind) (rest : List Kind) → drop at ks ≡ k ∷ rest → AreTokens ks → IsToken k

@@ -6,7 +6,7 @@ use Rattle.std.proofs.lemmas.List.Sums.{sum_by-cons}
 use Rattle.std.proofs.lemmas.Bool.Decides.{eqb_tells}
 use Rattle.std.proofs.lemmas.Bool.{eq-eqb}
 use Rattle.lsys_reads.specs.declared.Pair.{Pair}
-use Rattle.lsys_reads.specs.Rows.{has, Row, tag_row, OtherRowsStay, IsRising, AreRising, Cuts, SweepsRow, PutsTag, Reserves}
+use Rattle.lsys_reads.specs.Rows.{has, Row, tag_row, OtherRowsStay, IsRising, AreRising, PutsTag, Reserves}
 use Rattle.lsys_reads.proofs.RowLemmas.{either, has_at_end}
 use Rattle.lsys_reads.specs.Relations.{Relations, is_settled, SettledStay, row_tags, relations_of, occurrences, seen_tag, reader_of, AgreeBothWays, pairs_have, Covers, Forgets}
 
@@ -118,30 +118,9 @@ sound_put s s' r r' pairs p in_seen in_reader sound = record {
   owed_reader = owed_falls reader_of r r' pairs p in_reader.owed (λ q other. ap (λ (x : Row). x.owed) (in_reader.others q other)) sound.owed_reader;
 }
 
--- what a table has after a cut
-pub cuts_has : (old new : List Row) (tag other : ℕ) → Cuts old new tag other → (q x : ℕ) → has (tag_row new q).tags x ≡ (not ((tag == q) && (other == x)) && has (tag_row old q).tags x)
-cuts_has old new tag other cuts q x = elim (eqb_tells tag q) [
-  | inl same ↦ subst (λ (z : ℕ). has (tag_row new z).tags x ≡ (not ((tag == z) && (other == x)) && has (tag_row old z).tags x)) same.1
-      (cuts.tags x ∙ sym (ap (λ (b : Bool). not (b && (other == x)) && has (tag_row old tag).tags x) (eq-eqb tag tag refl)))
-  | inr apart ↦ ap (λ (r : Row). has r.tags x) (cuts.others q (λ e. apart.1 (sym e)))
-      ∙ sym (ap (λ (b : Bool). not (b && (other == x)) && has (tag_row old q).tags x) apart.0)
-]
-
-cuts_owed : (old new : List Row) (tag other : ℕ) → Cuts old new tag other → (q : ℕ) → (tag_row new q).owed ≡ (tag_row old q).owed
-cuts_owed old new tag other cuts q = elim (eqb_tells tag q) [
-  | inl same ↦ subst (λ (z : ℕ). (tag_row new z).owed ≡ (tag_row old z).owed) same.1 cuts.owed
-  | inr apart ↦ ap (λ (r : Row). r.owed) (cuts.others q (λ e. apart.1 (sym e)))
-]
-
 or_false : (a : Bool) → (a || false) ≡ a
 or_false true = refl
 or_false false = refl
-
-pub settled_put : (s s' : List Row) (pending pending' : List Pair) (p : Pair) (old : Relations) → relations_of s pending ≡ old → PutsTag s s' p.seen p.reader → (reader seen : ℕ) → is_settled (relations_of s' pending') reader seen ≡ (pairs_have (p ∷ []) reader seen || is_settled old reader seen)
-settled_put s s' pending pending' p old is puts reader seen =
-    settled_is s' pending' reader seen ∙ puts_has s s' p.seen p.reader puts seen reader
-    ∙ ap (λ (b : Bool). b || has (tag_row s seen).tags reader) (and_swap (p.seen == seen) (p.reader == reader) ∙ sym (or_false _))
-    ∙ ap (λ (b : Bool). pairs_have (p ∷ []) reader seen || b) (sym (settled_is s pending reader seen) ∙ ap (λ (v : Relations). is_settled v reader seen) is)
 
 pub pairs_have_push : (pairs : List Pair) (p : Pair) (reader seen : ℕ) → pairs_have (pairs ++ p ∷ []) reader seen ≡ (pairs_have pairs reader seen || pairs_have (p ∷ []) reader seen)
 pairs_have_push [] p reader seen = refl
@@ -189,69 +168,6 @@ reserves_rise old new tag reserves rising q = subst IsRising (sym (reserves_tags
 pub releases_rise : (old new : List Row) (tag : ℕ) → Reserves new old tag → AreRising old → AreRising new
 releases_rise old new tag reserves rising q = subst IsRising (reserves_tags new old tag reserves q) (rising q)
 
--- pairs of one reader are taken out
-pub covers_sound : (s r : List Row) (pending : List Pair) → AgreeBothWays s r pending → Covers s r
-covers_sound s r pending sound reader seen there = sym (sound.agree reader seen) ∙ there
-
-pub forgets_none : (s r : List Row) (reader : ℕ) (gone : List ℕ) → Covers s r → AreRising s → AreRising r → Forgets s r s r reader gone
-forgets_none s r reader gone covers rising_seen rising_reader = record {
-  covers = covers;
-  kept = λ other seen apart among. refl;
-  others = λ other apart. refl;
-  owed_seen = λ tag. refl;
-  owed_reader = λ tag. refl;
-  rising_seen = rising_seen;
-  rising_reader = rising_reader;
-}
-
-rising_but : (old new : List Row) (tag : ℕ) → OtherRowsStay old new tag → IsRising (tag_row new tag).tags → AreRising old → AreRising new
-rising_but old new tag others own was q = elim (eqb_tells tag q) [
-  | inl same ↦ subst (λ (z : ℕ). IsRising (tag_row new z).tags) same.1 own
-  | inr apart ↦ subst (λ (r : Row). IsRising r.tags) (sym (others q (λ e. apart.1 (sym e)))) (was q)
-]
-
-sweeps_kept_row : (old new : List Row) (tag reader : ℕ) (gone : List ℕ) → SweepsRow old new tag reader gone → (other q : ℕ) → other ≢ reader → has gone other ≡ false → has (tag_row new q).tags other ≡ has (tag_row old q).tags other
-sweeps_kept_row old new tag reader gone sweeps other q apart among = elim (eqb_tells tag q) [
-  | inl same ↦ subst (λ (z : ℕ). has (tag_row new z).tags other ≡ has (tag_row old z).tags other) same.1 (sweeps.tags.kept other apart among)
-  | inr far ↦ ap (λ (r : Row). has r.tags other) (sweeps.others q (λ e. far.1 (sym e)))
-]
-
-sweeps_owed : (old new : List Row) (tag reader : ℕ) (gone : List ℕ) → SweepsRow old new tag reader gone → (q : ℕ) → (tag_row new q).owed ≡ (tag_row old q).owed
-sweeps_owed old new tag reader gone sweeps q = elim (eqb_tells tag q) [
-  | inl same ↦ subst (λ (z : ℕ). (tag_row new z).owed ≡ (tag_row old z).owed) same.1 sweeps.owed
-  | inr far ↦ ap (λ (r : Row). r.owed) (sweeps.others q (λ e. far.1 (sym e)))
-]
-
-keeps_false : (a c : Bool) → (not (a && false) && c) ≡ c
-keeps_false true c = refl
-keeps_false false c = refl
-
--- the reader's row loses the tag, and the tag's row the reader
-covers_one : (s s' r r' : List Row) (reader seen : ℕ) (gone : List ℕ) → Cuts r r' reader seen → SweepsRow s s' seen reader gone → Covers s r → Covers s' r'
-covers_one s s' r r' reader seen gone cuts sweeps covers other tag there = elim (eqb_tells seen tag) [
-  | inl same ↦
-      (let here : has (tag_row s' seen).tags other ≡ true = ap (λ (z : ℕ). has (tag_row s' z).tags other) same.1 ∙ there in
-      let apart : other ≢ reader = λ e. let wrong : false ≡ true = sym sweeps.tags.lost ∙ ap (has (tag_row s' seen).tags) (sym e) ∙ here in cc in
-      subst (λ (z : ℕ). has (tag_row r' other).tags z ≡ true) same.1
-      (ap (λ (x : Row). has x.tags seen) (cuts.others other apart) ∙ covers other seen (sweeps.tags.fewer other here)))
-  | inr far ↦
-      (let was = covers other tag (sym (ap (λ (x : Row). has x.tags other) (sweeps.others tag (λ e. far.1 (sym e)))) ∙ there) in
-      cuts_has r r' reader seen cuts other tag
-      ∙ ap (λ (b : Bool). not ((reader == other) && b) && has (tag_row r other).tags tag) far.0
-      ∙ keeps_false (reader == other) (has (tag_row r other).tags tag) ∙ was)
-]
-
-pub forgets_one : (s r s' r' s2 r2 : List Row) (reader seen : ℕ) (gone : List ℕ) → Forgets s r s' r' reader gone → Cuts r' r2 reader seen → IsRising (tag_row r2 reader).tags → SweepsRow s' s2 seen reader gone → Forgets s r s2 r2 reader gone
-forgets_one s r s' r' s2 r2 reader seen gone so_far cuts rising sweeps = record {
-  covers = covers_one s' s2 r' r2 reader seen gone cuts sweeps so_far.covers;
-  kept = λ other tag apart among. sweeps_kept_row s' s2 seen reader gone sweeps other tag apart among ∙ so_far.kept other tag apart among;
-  others = λ other apart. cuts.others other apart ∙ so_far.others other apart;
-  owed_seen = λ tag. sweeps_owed s' s2 seen reader gone sweeps tag ∙ so_far.owed_seen tag;
-  owed_reader = λ tag. cuts_owed r' r2 reader seen cuts tag ∙ so_far.owed_reader tag;
-  rising_seen = rising_but s' s2 seen sweeps.others sweeps.rising so_far.rising_seen;
-  rising_reader = rising_but r' r2 reader cuts.others rising so_far.rising_reader;
-}
-
 -- the readers in `gone` have no pairs, but for those in `rest`
 pub record ForgetsDownTo (s r s' r' : List Row) (gone rest : List ℕ) : Type 0 where
   pub covers : Covers s' r'
@@ -263,19 +179,6 @@ pub record ForgetsDownTo (s r s' r' : List Row) (gone rest : List ℕ) : Type 0 
   pub owed_reader : (tag : ℕ) → (tag_row r' tag).owed ≡ (tag_row r tag).owed
   pub rising_seen : AreRising s'
   pub rising_reader : AreRising r'
-
-pub forgets_from : (s r : List Row) (pending : List Pair) (gone : List ℕ) → AgreeBothWays s r pending → AreRising s → AreRising r → ForgetsDownTo s r s r gone gone
-forgets_from s r pending gone sound rising_seen rising_reader = record {
-  covers = covers_sound s r pending sound;
-  within = λ other there. there;
-  kept = λ other seen among. refl;
-  stay = λ other among. refl;
-  none = λ other there lacks. absurd (let wrong : true ≡ false = sym there ∙ lacks in cc);
-  owed_seen = λ tag. refl;
-  owed_reader = λ tag. refl;
-  rising_seen = rising_seen;
-  rising_reader = rising_reader;
-}
 
 or_true : (a : Bool) → (a || true) ≡ true
 or_true true = refl
@@ -340,14 +243,6 @@ pub record Settles (s s' r' : List Row) (pending pending' : List Pair) : Type 0 
   pub rising_seen : RiseUnlessOwed s'
   pub rising_reader : RiseUnlessOwed r'
 
-pub settles_none : (s r : List Row) (pending : List Pair) → AgreeBothWays s r pending → AreRising s → AreRising r → Settles s s r pending pending
-settles_none s r pending sound rising_seen rising_reader = record {
-  sound = sound;
-  either = λ reader seen. refl;
-  rising_seen = λ tag none. rising_seen tag;
-  rising_reader = λ tag none. rising_reader tag;
-}
-
 rise_put : (old new : List Row) (tag other : ℕ) → PutsTag old new tag other → ((tag_row new tag).owed ≡ 0 → IsRising (tag_row new tag).tags) → RiseUnlessOwed old → RiseUnlessOwed new
 rise_put old new tag other puts own was q none = elim (eqb_tells tag q) [
   | inl same ↦ subst (λ (z : ℕ). IsRising (tag_row new z).tags) same.1 (own (ap (λ (z : ℕ). (tag_row new z).owed) same.1 ∙ none))
@@ -368,16 +263,3 @@ settles_one s s' r' s2 r2 pending pending' left p so_far pushed in_seen rise_see
   rising_seen = rise_put s' s2 p.seen p.reader in_seen rise_seen so_far.rising_seen;
   rising_reader = rise_put r' r2 p.reader p.seen in_reader rise_reader so_far.rising_reader;
 }
-
--- at the end nothing is owed
-pub settles_rise_seen : (s s' r' : List Row) (pending pending' : List Pair) → Settles s s' r' pending pending' → pending' ≡ [] → AreRising s'
-settles_rise_seen s s' r' pending pending' all empty tag = all.rising_seen tag (all.sound.owed_seen tag ∙ ap (λ (l : List Pair). occurrences (map seen_tag l) tag) empty)
-
-pub settles_rise_reader : (s s' r' : List Row) (pending pending' : List Pair) → Settles s s' r' pending pending' → pending' ≡ [] → AreRising r'
-settles_rise_reader s s' r' pending pending' all empty tag = all.rising_reader tag (all.sound.owed_reader tag ∙ ap (λ (l : List Pair). occurrences (map reader_of l) tag) empty)
-
-pub settles_all : (s s' r' : List Row) (pending pending' : List Pair) (old : Relations) → relations_of s pending ≡ old → Settles s s' r' pending pending' → pending' ≡ [] → (reader seen : ℕ) → is_settled (relations_of s' pending') reader seen ≡ (is_settled old reader seen || pairs_have old.pending reader seen)
-settles_all s s' r' pending pending' old is all empty reader seen =
-    settled_is s' pending' reader seen ∙ sym (or_false _) ∙ ap (λ (l : List Pair). has (tag_row s' seen).tags reader || pairs_have l reader seen) (sym empty)
-    ∙ all.either reader seen ∙ ap (λ (b : Bool). b || pairs_have pending reader seen) (sym (settled_is s pending reader seen))
-    ∙ ap (λ (v : Relations). is_settled v reader seen || pairs_have v.pending reader seen) is

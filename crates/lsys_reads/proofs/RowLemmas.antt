@@ -187,13 +187,6 @@ rising_next (x ∷ y ∷ xs) next =
 pub rising_dedup : (xs : List ℕ) → IsSorted nat_cmp xs → IsRising (dedup eqb xs)
 rising_dedup xs sorted = rising_next (dedup eqb xs) (IsStrictlyIncreasing-dedup xs sorted)
 
--- a tag at the end
-or_turned : (a b : Bool) → (a || b) ≡ (b || a)
-or_turned true true = refl
-or_turned true false = refl
-or_turned false true = refl
-or_turned false false = refl
-
 pub has_at_end : (xs : List ℕ) (x q : ℕ) → has (xs ++ x ∷ []) q ≡ ((x == q) || has xs q)
 has_at_end [] x q = refl
 has_at_end (y ∷ xs) x q = ap (λ (b : Bool). (y == q) || b) (has_at_end xs x q) ∙ or_swap (y == q) (x == q) (has xs q)
@@ -212,25 +205,6 @@ rising_above xs x rising above = rising_at_end xs x rising (λ k within.
     let last = above (omega (arith, within)) in
     let most = rising_le xs rising k (length xs - 1) (omega (arith, within)) (omega (arith, within)) in
     omega (arith, last, most))
-
--- a cut is a sweep
-cut_lost : (b : Bool) → b ≡ true → (c : Bool) → (not b && c) ≡ false
-cut_lost true e c = refl
-cut_lost false e c = absurd (let wrong : false ≡ true = e in cc)
-
-cut_fewer : (b c : Bool) → (not b && c) ≡ true → c ≡ true
-cut_fewer true c e = absurd (let wrong : false ≡ true = e in cc)
-cut_fewer false c e = e
-
-pub sweeps_cut : (old new : List ℕ) (tag : ℕ) (gone : List ℕ) → ((q : ℕ) → has new q ≡ (not (tag == q) && has old q)) → Sweeps old new tag gone
-sweeps_cut old new tag gone cut = record {
-  lost = cut tag ∙ cut_lost (tag == tag) (eq-eqb tag tag refl) (has old tag);
-  kept = λ q apart among. cut q ∙ ap (λ (b : Bool). not b && has old q) (ne_eqb tag q (λ e. apart (sym e)));
-  fewer = λ q there. cut_fewer (tag == q) (has old q) (sym (cut q) ∙ there);
-}
-
-pub sweeps_none : (old : List ℕ) (tag : ℕ) (gone : List ℕ) → has old tag ≡ false → Sweeps old old tag gone
-sweeps_none old tag gone lacks = record { lost = lacks; kept = λ q apart among. refl; fewer = λ q there. there }
 
 or_more : (a b c : Bool) → (b ≡ true → c ≡ true) → (a || b) ≡ true → (a || c) ≡ true
 or_more true b c more there = refl

@@ -39,10 +39,6 @@ count-set q parts n was now w z here old new =
     let after : tally (q now) ≡ tally z = ap tally new in
     omega (arith, step, before, after)
 
--- a part that holds a list is not free
-pub not_free : (room start class len : ℕ) → is_free_part room (part_at start class (Some len)) ≡ false
-not_free room start class len = refl
-
 pub free_here : (room start class : ℕ) → 2 ^ class ≡ room → is_free_part room (part_at start class None) ≡ true
 free_here room start class same = eq-eqb (2 ^ class) room same
 

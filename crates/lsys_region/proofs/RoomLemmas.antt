@@ -99,20 +99,8 @@ below_double len room (suc k) positive power least =
       | inr fits ↦ absurd (omega (arith, least k fits, pow-suc 2 k, pow_pos k))
     ]
 
-room_of_empty : (long : ℕ) → room_of zero ≤ long
-unfolding room_of
-room_of_empty long = omega arith
-
 -- more than half of the room is filled
 pub room_below_double : (len : ℕ) → 0 < len → room_of len < 2 * len
 room_below_double len positive =
     let least = room_of_least len positive in
     below_double len (room_of len) least.power.0 positive least.power.1 least.least
-
--- longer lists have no less room
-pub room_mono : (short long : ℕ) → short ≤ long → room_of short ≤ room_of long
-room_mono zero long shorter = room_of_empty (room_of long)
-room_mono (suc n) long shorter =
-    let small = room_of_least (suc n) (omega arith) in
-    let large = room_of_least long (omega arith) in
-    rw large.power.1 (small.least large.power.0 (rw (sym large.power.1) (omega (arith, large.fits))))

@@ -4,18 +4,17 @@ use Rattle.std.proofs.lemmas.Bool.{eqb-true}
 use Rattle.std.proofs.lemmas.List.{take_more, take-append-drop, map-append}
 use Rattle.lsys_syntax.specs.Tokens.{NameText, long, Kind, LongWord, Comma, LeftParen, RightParen, LeftBracket, RightBracket, Percent, Colon, At, Less, Greater, Bang, Assign, one_mark}
 use Rattle.lsys_syntax.specs.Pieces.{Piece, blank, token, note, a_symbol, a_param, token_text, text_of}
-use Rattle.lsys_syntax.specs.Strings.{Symbol, Module, Push, Pop, Cut, ModuleName, named, Signed, signed_of, more_pieces, params_pieces, symbol_pieces, string_pieces, signed_pieces, value_pieces, string_text, ends_in_name, begins_with_letter, is_letters}
+use Rattle.lsys_syntax.specs.Strings.{Symbol, Module, Push, Pop, Cut, ModuleName, named, Signed, signed_of, more_pieces, params_pieces, symbol_pieces, string_pieces, signed_pieces, value_pieces, string_text, ends_in_name, begins_with_letter}
 use Rattle.lsys_syntax.specs.Expressions.{Expr, only_and, or, And, only_rel, and, Rel, only_sum, compare, RelOp, equal, unequal, less, at_most, greater, at_least, Sum, only_term, total, SumOp, add, subtract, Term, only_unary, product, TermOp, multiply, divide, remainder, Unary, negated, inverted, only_atom, raised, Atom, number, name, parens, expr_kinds, and_kinds, rel_kinds, sum_kinds, term_kinds, unary_kinds, atom_kinds, rel_kind, sum_kind, term_kind, expr_pieces}
 use Rattle.lsys_syntax.specs.Commands.{Command, Numbering, as_symbol, command_pieces, list_word, set_axiom, set_depth, set_ignored, set_lattice, set_schedule, set_seed, set_version, string_behind, words_pieces}
 use Rattle.lsys_syntax.specs.Rules.{Rule, Production, formal_pieces, left_pieces, predecessor_pieces, right_pieces, option_pieces, successor_pieces, rule_pieces}
-use Rattle.lsys_spec.specs.Systems.{System, Homomorphism, Own, module_name_text, written}
+use Rattle.lsys_spec.specs.Systems.{System, Homomorphism, Own, written}
 use Rattle.lsys_spec.specs.Shown.{as_put, as_put_homomorphism, as_set_own, numbering_commands, version_commands, script_of, show_text}
 use Rattle.lsys_text.specs.declared.token_kind.TokenKind.{TokenKind}
 use Rattle.lsys_text.specs.declared.token_kind.TokenKind.TheVariants as kinds
 use Rattle.lsys_text.specs.Tokens.{kind_of, is_mark, mark_kind, IsMarkByte}
 use Rattle.lsys_module.specs.Views.{module_name}
-use Rattle.lsys_module.specs.Printing.{gap_text, name_behind, symbol_behind, more_text, runs_on_after}
-use Rattle.lsys_module.proofs.PrintedTexts.{text_of-append, more_text-append}
+use Rattle.lsys_module.proofs.PrintedTexts.{text_of-append}
 use Rattle.lsys_rules.specs.Showing.{script_line, listed_text, names_text, kinds_text, expr_behind, version_lines}
 
 -- a text of items, one behind another
@@ -66,9 +65,6 @@ kinds_gather f = record {
 -- a line, and the lines behind it
 pub line-behind : (c : Command) (cs : List Command) → script_of (c ∷ cs) ≡ script_line c ++ script_of cs
 line-behind c cs = sym (append_assoc (text_of (command_pieces c)) (10 ∷ []) (script_of cs))
-
-pub script-behind : (xs ys : List Command) → script_of (xs ++ ys) ≡ script_of xs ++ script_of ys
-script-behind = script-append
 
 -- tokens of an expression
 token-texts : (ks : List Kind) (ps : List Piece) → text_of (map token ks ++ ps) ≡ kinds_text ks ++ text_of ps

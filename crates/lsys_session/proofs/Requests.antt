@@ -38,9 +38,6 @@ told_by limit s bare ts v e h =
     ∙ ap (λ ks. verdict_reply limit s (λ n. column_at (length bare) n (map token_of ts)) (verdict ks)) (same_kinds ts)
     ∙ ap (verdict_reply limit s (λ n. column_at (length bare) n (map token_of ts))) h
 
-pub byte_refused : (bare : List ℕ) (n : ℕ) → syntax.tokens bare ≡ Err n → IsCommandIn bare (Err (refusals.Byte n))
-byte_refused bare n e = λ limit s. ap (tokens_reply limit s (length bare)) e
-
 pub parsed_line : (bare : List ℕ) (ts : List Token) → syntax.tokens bare ≡ Ok (map token_of ts) → (r : Result CommandLine Refusal) → IsParsedLine ts (length bare) r → IsCommandIn bare r
 parsed_line bare ts e (Ok c) p = subst (λ (l : CommandLine). IsCommandIn bare (Ok l)) (sym p.0) (e, p.1, refl)
 parsed_line bare ts e (Err (refusals.Token n)) p = λ limit s.
@@ -155,21 +152,6 @@ passed_over s bare e = (λ limit. taken (is_passed_over bare) (said s []) (token
 
 not_passed : (limit : ℕ) (s : spec.System) (bare : List ℕ) → is_passed_over bare ≡ false → bare_reply limit s bare ≡ tokens_reply limit s (length bare) (syntax.tokens bare)
 not_passed limit s bare e = left (is_passed_over bare) (said s []) (tokens_reply limit s (length bare) (syntax.tokens bare)) e
-
-pub no_command : (s : spec.System) (bare : List ℕ) (r : Refusal) → is_passed_over bare ≡ false → IsCommandIn bare (Err r) → IsRequest s bare (Err r)
-no_command s bare refusals.Memory p h = p
-no_command s bare (refusals.Byte n) p h = λ limit. not_passed limit s bare p ∙ h limit s
-no_command s bare refusals.LongLine p h = λ limit. not_passed limit s bare p ∙ h limit s
-no_command s bare (refusals.Token n) p h = λ limit. not_passed limit s bare p ∙ h limit s
-no_command s bare (refusals.Deep n) p h = λ limit. not_passed limit s bare p ∙ h limit s
-no_command s bare (refusals.Version n) p h = λ limit. not_passed limit s bare p ∙ h limit s
-no_command s bare (refusals.Name n) p h = λ limit. not_passed limit s bare p ∙ h limit s
-no_command s bare (refusals.Duplicate n) p h = λ limit. not_passed limit s bare p ∙ h limit s
-no_command s bare (refusals.Mixed n) p h = λ limit. not_passed limit s bare p ∙ h limit s
-no_command s bare (refusals.Label n) p h = λ limit. not_passed limit s bare p ∙ h limit s
-no_command s bare (refusals.Table n) p h = λ limit. not_passed limit s bare p ∙ h limit s
-no_command s bare (refusals.Level n) p h = λ limit. not_passed limit s bare p ∙ h limit s
-no_command s bare (refusals.TooMany n) p h = λ limit. not_passed limit s bare p ∙ h limit s
 
 module _ (s : spec.System) (bare : List ℕ) (c : CommandLine) (p : is_passed_over bare ≡ false) (h : IsCommandIn bare (Ok c)) where
   abbrev column : ℕ → ℕ

@@ -68,10 +68,6 @@ unlike_first x before (y ∷ xs) h c = (
   unlike_first x before xs h.1 c,
 )
 
-none_among : (x : Symbol ℤ) (xs : List (Symbol ℤ)) → Each (λ y. code_of y ≢ code_of x) xs → among_symbols (code_of x) xs ≡ 0
-none_among x [] h = refl
-none_among x (y ∷ xs) h = one_symbol (code_of x) y xs ∙ none_more (code_of y == code_of x) (among_symbols (code_of x) xs) (ne_eqb (code_of y) (code_of x) h.0) ∙ none_among x xs h.1
-
 inserted_from : (n : ℕ) (before : List ℕ) (front back : List (Symbol ℤ)) (x : Symbol ℤ) → among (code_of x) before ≡ 0 → Each (λ y. code_of y ≢ code_of x) (front ++ back)
     → numbers_from by_name n before (front ++ x ∷ back)
     ≡ take (length front) (numbers_from by_name n before (front ++ back)) ++ (number_base * code_of x) ∷ drop (length front) (numbers_from by_name n before (front ++ back))

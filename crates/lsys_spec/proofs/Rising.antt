@@ -8,7 +8,7 @@ use Rattle.lsys_spec.specs.Levels.{LevelSymbol, Push, Pop, Module, lineage}
 use Rattle.lsys_syntax.specs.Commands.{Numbering, by_place, by_name}
 use Rattle.lsys_spec.specs.Draws.{number_base}
 use Rattle.lsys_spec.specs.Numbers.{code_of, number_at}
-use Rattle.lsys_spec.specs.Cuts.{Raw, Plain, Cut, raw_lineage, cut_on, Before, WithAll, Pairwise, BeforeAll, Rising, Distinct}
+use Rattle.lsys_spec.specs.Cuts.{Raw, Plain, Cut, raw_lineage, cut_on, Before, WithAll, Pairwise, Distinct}
 use Rattle.lsys_spec.specs.Meaning.{raw_of, numbered}
 
 abbrev pub RawsWith : (List ℕ → List ℕ → Type 0) → List ℕ → List Raw → Type 0
@@ -35,12 +35,6 @@ before_sibling : (a : List ℕ) (i j : ℕ) → i < j → Before (a ++ i ∷ [])
 before_sibling [] i j h = inl h
 before_sibling (x ∷ a) i j h = inr (refl, before_sibling a i j h)
 
-not_before_itself : (a b : List ℕ) → a ≡ b → Before a b → ⊥
-not_before_itself [] b e h = h
-not_before_itself (x ∷ a) [] e h = h
-not_before_itself (x ∷ a) (y ∷ b) e (inl l) = let i : x ≡ y = cc in omega (arith, l, i)
-not_before_itself (x ∷ a) (y ∷ b) e (inr h) = let i : a ≡ b = cc in not_before_itself a b i h.1
-
 -- each lineage stands once
 
 with_at : (R : List ℕ → List ℕ → Type 0) (a : List ℕ) (x : List LevelSymbol) (p : ℕ) (t : LevelSymbol) → WithAll R a x → slice_get x p ≡ Some t → R a (lineage t)
@@ -54,18 +48,6 @@ distinct_apart (u ∷ x) h zero zero s t g k e = refl
 distinct_apart (u ∷ x) h zero (suc q) s t g k e = let i : u ≡ s = cc in absurd (with_at Unlike (lineage u) x q t h.0 k (ap lineage i ∙ e))
 distinct_apart (u ∷ x) h (suc p) zero s t g k e = let i : u ≡ t = cc in absurd (with_at Unlike (lineage u) x p s h.0 g (ap lineage i ∙ sym e))
 distinct_apart (u ∷ x) h (suc p) (suc q) s t g k e = ap (λ n. suc n) (distinct_apart x h.1 p q s t g k e)
-
-unlike_all : (a : List ℕ) (x : List LevelSymbol) → BeforeAll a x → WithAll Unlike a x
-unlike_all a [] h = tt
-unlike_all a (s ∷ x) h = (λ e. not_before_itself a (lineage s) e h.0, unlike_all a x h.1)
-
--- lineages that rise are distinct
-pub rising_distinct : (x : List LevelSymbol) → Rising x → Distinct x
-rising_distinct [] h = tt
-rising_distinct (s ∷ x) h = (unlike_all (lineage s) x h.0, rising_distinct x h.1)
-
-pub rising_apart : (x : List LevelSymbol) → Rising x → (p q : ℕ) (s t : LevelSymbol) → slice_get x p ≡ Some s → slice_get x q ≡ Some t → lineage s ≡ lineage t → p ≡ q
-rising_apart x h = distinct_apart x (rising_distinct x h)
 
 -- what a cut leaves
 

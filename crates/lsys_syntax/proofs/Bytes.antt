@@ -13,9 +13,6 @@ differs p c d h k = ne_eqb _ _ (λ e. true≢false (sym h ∙ ap p e ∙ k))
 pub letter_no_digit : (c : ℕ) → is_letter c ≡ true → is_digit c ≡ false
 letter_no_digit c h = grind (arith, nat_tests)
 
-pub digit_no_letter : (c : ℕ) → is_digit c ≡ true → is_letter c ≡ false
-digit_no_letter c h = grind (arith, nat_tests)
-
 pub digit-is : (c : ℕ) → digit_value c < 10 → is_digit c ≡ true
 digit-is c h = grind (arith, nat_tests)
 

@@ -1,8 +1,7 @@
 -- An expression printed with nothing between its tokens is read as its own tokens.
-use Rattle.std.proofs.Common.{◌≡◌, ℕ, zero, true, List, [], ◌∷◌, ◌++◌, map, refl, ap, append_assoc, append-nil, arith, Ok}
-use Rattle.lsys_syntax.specs.Tokens.{Kind, NameText, short, long, Modules, Unequal, AtMost, AtLeast, LeftParen, RightParen, Plus, Minus, Times, Slash, Percent, Ampersand, Bar, Caret, Bang, Less, Greater, tokens_from}
-use Rattle.lsys_syntax.specs.Pieces.{Piece, token, note, expr_ends, text_of, placed, Tail, anything, not_digit, not_equals, letter, digit, equals, may_follow, Reads, name_ending}
-use Rattle.lsys_syntax.proofs.ReadBack.{reads-from}
+use Rattle.std.proofs.Common.{◌≡◌, true, List, [], ◌∷◌, ◌++◌, map, refl, ap, append_assoc, arith}
+use Rattle.lsys_syntax.specs.Tokens.{Kind, NameText, short, long, Modules, Unequal, AtMost, AtLeast, LeftParen, RightParen, Plus, Minus, Times, Slash, Percent, Ampersand, Bar, Caret, Bang, Less, Greater}
+use Rattle.lsys_syntax.specs.Pieces.{Piece, token, note, expr_ends, Tail, anything, not_digit, not_equals, letter, digit, equals, may_follow, Reads, name_ending}
 use Rattle.lsys_syntax.proofs.StringsRead.{mark-reads}
 use Rattle.lsys_syntax.specs.Expressions.{TermOp, multiply, divide, remainder, SumOp, add, subtract, RelOp, equal, unequal, less, at_most, greater, at_least, Expr, only_and, or, And, only_rel, and, Rel, only_sum, compare, Sum, only_term, total, Term, only_unary, product, Unary, negated, inverted, only_atom, raised, Atom, number, name, parens, term_kind, sum_kind, rel_kind, expr_kinds, and_kinds, rel_kinds, sum_kinds, term_kinds, unary_kinds, atom_kinds, IsExpr, IsAnd, IsRel, IsSum, IsTerm, IsUnary, IsAtom, expr_pieces}
 
@@ -87,8 +86,3 @@ mutual
 
 pub pieces-reads : (e : Expr) → IsExpr e → (t : Tail) → Opens t → (ps : List Piece) → AfterOperand ps → Reads Modules t (expr_pieces e ++ ps)
 pieces-reads e g t o ps h = rw (append_assoc (map token (expr_kinds e)) (note expr_ends ∷ []) ps) (expr-reads e g t o (note expr_ends ∷ ps) h)
-
--- A printed expression is read as its own tokens.
-pub expr_law : (e : Expr) (p : ℕ) → IsExpr e → tokens_from Modules zero p (text_of (expr_pieces e)) ≡ Ok (placed p (expr_pieces e))
-expr_law e p g = reads-from (expr_pieces e) Modules anything p
-    (rw (← append-nil (expr_pieces e)) (pieces-reads e g anything (refl, refl) [] (λ t o. tt)))

@@ -111,10 +111,6 @@ module _ (m : Form) (ks : List Kind) (at : ℕ) (k : Kind) (p : Point) (h : Here
   pub same-token : (q : Point) → point_step m p k ≡ point_step m q k → verdict_at m ks at p ≡ verdict_at m ks at q
   same-token q e = token-at ∙ ap (λ t. taken at t (rule_from m (at + 1) t (drop (at + 1) ks))) e ∙ sym (ap (point_from m at q) h.1)
 
--- the end of the tokens
-pub stops-end : (m : Form) (ks : List Kind) (at : ℕ) (p : Point) → drop at ks ≡ [] → point_end p ≡ None → verdict_at m ks at p ≡ stops at
-stops-end m ks at p h e = ap (point_from m at p) h ∙ ap (rule_or_stop at) e
-
 pub same-end : (m : Form) (ks : List Kind) (at : ℕ) (p q : Point) → drop at ks ≡ [] → point_end p ≡ point_end q → verdict_at m ks at p ≡ verdict_at m ks at q
 same-end m ks at p q h e = ap (point_from m at p) h ∙ ap (rule_or_stop at) e ∙ sym (ap (point_from m at q) h)
 

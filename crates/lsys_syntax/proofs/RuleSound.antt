@@ -74,11 +74,6 @@ same-room : (m : Form) (p : Part) (r : List (Symbol NameText)) (x y : Symbol Nam
 same-room m p [] x y h = tt
 same-room m p (z ∷ r) x y h = h
 
-room-before : (m : Form) (p : Part) (r : List (Symbol NameText)) (x : Symbol NameText) → HasRoom m p (x ∷ r) → HasRoom m p r
-room-before m p [] x h = tt
-room-before m p (y ∷ []) x h = tt
-room-before m p (y ∷ z ∷ r) x h = h
-
 pub right-room : (m : Form) (l : List (Symbol NameText)) (n : ModuleName) (fs : List NameText) (r : List (Symbol NameText)) → OnlyProduction m → HasRoom m (at_right l n fs) r
 right-room m l n fs [] o = tt
 right-room m l n fs (x ∷ []) o = tt

@@ -59,17 +59,6 @@ Every-at p [] i h l = absurd (omega arith)
 Every-at p (c ∷ xs) zero h l = h.0
 Every-at p (c ∷ xs) (suc i) h l = Every-at p xs i h.1 (omega arith)
 
--- at most n of them
-take_by : (p : ℕ → Bool) (n c : ℕ) (xs : List ℕ) (b : Bool) → p c ≡ b → prefix_len p (take n xs) ≡ length (take n (front p xs))
-    → prefix_len p (take (suc n) (c ∷ xs)) ≡ length (take (suc n) (front p (c ∷ xs)))
-take_by p n c xs true e ih = rw e (omega arith)
-take_by p n c xs false e ih = rw e refl
-
-pub prefix_len-take : (p : ℕ → Bool) (n : ℕ) (xs : List ℕ) → prefix_len p (take n xs) ≡ length (take n (front p xs))
-prefix_len-take p zero xs = refl
-prefix_len-take p (suc n) [] = refl
-prefix_len-take p (suc n) (c ∷ xs) = take_by p n c xs (p c) refl (prefix_len-take p n xs)
-
 pub letter_word : (c : ℕ) → is_letter c ≡ true → is_word_byte c ≡ true
 letter_word c h = rw h refl
 
@@ -123,10 +112,6 @@ digit-range c h = grind (arith, nat_tests)
 
 pub digit-is : (c : ℕ) → is_digit c ≡ true → digit_value c ≡ c - 48
 digit-is c h = let r : (48 ≤ c) × (c ≤ 57) = digit-range c h in grind (arith, nat_tests)
-
-pub front-first : (p : ℕ → Bool) (text : List ℕ) → begins_with p text ≡ true → 0 < length (front p text)
-front-first p [] h = cc
-front-first p (c ∷ text) h = rw h (omega arith)
 
 -- a number with one more of its digits
 pub value-step : (digits : List ℕ) (i value : ℕ) → Every is_digit digits → i < length digits → value ≡ digits_value 10 (take i digits)

@@ -4,5 +4,4 @@ pub mod Longest
 pub mod Reading
 pub mod Shapes
 pub mod Taken
-pub mod KindsSame
 pub mod LineTokens

@@ -1,5 +1,5 @@
 -- The loop that fills the children that are wanted.
-use Rattle.std.proofs.Common.{◌≡◌, ℕ, ◌+◌, ◌<◌, ◌≤◌, Some, None, Option, List, [], ◌∷◌, ◌++◌, length, refl, sym, ap, ◌∙◌, subst, arith, append_assoc, append-nil, drop}
+use Rattle.std.proofs.Common.{◌≡◌, ℕ, ◌+◌, ◌<◌, ◌≤◌, Some, None, Option, List, [], ◌∷◌, ◌++◌, length, sym, ap, ◌∙◌, subst, arith, append_assoc, append-nil, drop}
 use Rattle.std.specs.Prelude.{slice_get, is_some, IfSome}
 use Rattle.std.proofs.Common.{zero, suc, add-one}
 use Rattle.std.proofs.Math.Seq.{drop-cons}
@@ -29,9 +29,6 @@ pub record IsFilled (g : Numbering) (key : ℕ) (ss : List Symbol) (i : ℕ) (nu
   pub behind : IsBehind i before numbers
   pub told : ws ++ wanted_from g key i before o (drop i ss) ≡ wanted_from g key 0 [] None ss
   pub past : cutting_past o (drop i ss) ≡ cutting_past None ss
-
-pub none_filled : (g : Numbering) (key : ℕ) (ss : List Symbol) (numbers : Numbers) → IsBehind 0 [] numbers → IsFilled g key ss 0 numbers [] None
-none_filled g key ss numbers h = record { before = []; behind = h; told = refl; past = refl }
 
 pub one_filled : (g : Numbering) (key : ℕ) (ss : List Symbol) (i : ℕ) (numbers after : Numbers) (ws : List Child) (o : Option ℕ) (s : Symbol) (number : Number) → IsFilled g key ss i numbers ws o → slice_get ss i ≡ Some s
     → ((n : ℕ) (before : List ℕ) → IsBehind n before numbers → number ≡ numbered_at g n before (code_of (symbol_of s)))

@@ -45,11 +45,3 @@ pub with_number : (word name number : List ℕ) (words : List (List ℕ)) (found
     → front_of (flat_map in_two (word ∷ words)) ≡ option_map (λ s. (s, flat_map in_two words)) found
 with_number word name number words found e f =
     ap (λ ws. front_of (ws ++ flat_map in_two words)) e ∙ ap (λ o. option_map (λ s. (s, flat_map in_two words)) o) (sym f)
-
-pub with_next : (word name next : List ℕ) (words : List (List ℕ)) (found : Option Setting) → in_two word ≡ name ∷ [] → found ≡ setting_of name next
-    → front_of (flat_map in_two (word ∷ next ∷ words)) ≡ option_map (λ s. (s, flat_map in_two words)) found
-with_next word name next words found e f =
-    ap (λ ws. front_of (ws ++ (in_two next ++ flat_map in_two words))) e ∙ second name next (flat_map in_two words) ∙ ap (λ o. option_map (λ s. (s, flat_map in_two words)) o) (sym f)
-
-pub with_none : (word name : List ℕ) → in_two word ≡ name ∷ [] → front_of (flat_map in_two (word ∷ [])) ≡ None
-with_none word name e = ap (λ ws. front_of (ws ++ [])) e
