@@ -146,8 +146,22 @@ fn is_busy(
     if !is_asked {
         return Ok(false);
     }
+    Ok(!have_same_rules(alloc, old, new, level)?)
+}
+
+/// Whether a level has the same rules by two systems. It costs steps by their number.
+///
+/// # Errors
+///
+/// Want of memory.
+fn have_same_rules(
+    alloc: Global,
+    old: &System,
+    new: &System,
+    level: u32,
+) -> Result<bool, AllocError> {
     let mut rules = LevelRules::new(alloc, old, new, level)?;
-    Ok(!rules.are_all_alike()?)
+    rules.are_all_alike()
 }
 
 /// How many nodes of a level have other children, or turned: these parents, and those that its front tells.

@@ -1,5 +1,6 @@
 -- The states that the words of commands, of lattices and of numberings lead to.
-use Rattle.std.specs.Prelude.{Option, Some, None, []}
+use Rattle.std.specs.Prelude.{ℕ, Option, Some, None, List, [], ◌∷◌, bytes_eq, if◌then◌else◌}
+use Rattle.std.specs.Borrow.{Bor}
 use Rattle.lsys_syntax.specs.Commands.{to_ignore, to_consider, set_lattice, set_numbering, print_segments, print_svg, print_system, quit}
 use Rattle.lsys_syntax.specs.LineMachine.{Symbols, State, InAxiom, ProductionDue, DropDue, InNames, of_ignored, ScheduleDue, SeedDue, DepthDue, LatticeDue, LabelDue, StringRead, VersionDue, TableDue, CommonDue, NumberingDue, Whole, Stop}
 use Rattle.lsys_reading.specs.declared.word.CommandWord.{CommandWord}
@@ -41,3 +42,8 @@ lattice_state_in None = Stop
 abbrev pub numbering_state_in : Option Numbering → State
 numbering_state_in (Some g) = Whole (set_numbering (numbering_of g))
 numbering_state_in None = Stop
+
+-- what a text means by a table of words, where it is one of them
+abbrev pub meaning_in : {A : Type 0} → List (Bor (List ℕ) × A) → List ℕ → Option A
+meaning_in [] w = None
+meaning_in (e ∷ es) w = if bytes_eq w e.0.now then Some e.1 else meaning_in es w

@@ -1,7 +1,7 @@
 //! The words of commands, of lattices and of numberings.
 ghost use Rattle.std.specs.Prelude.{◌≡◌};
 ghost use Rattle.lsys_syntax.specs.LineMachine.{first_word, lattice_named, numbering_named};
-ghost use Rattle.lsys_reading.specs.Words.{word_state_in, lattice_state_in, numbering_state_in};
+ghost use Rattle.lsys_reading.specs.Words.{word_state_in, lattice_state_in, numbering_state_in, meaning_in};
 
 use crate::parts::{LatticeName, Numbering};
 use lsys_text::Word;
@@ -30,6 +30,42 @@ pub(crate) enum CommandWord {
     Lineage,
 }
 
+// Each word that begins a command.
+const COMMAND_WORDS: [(&[u8], CommandWord); 19] = [
+    (b"axiom", CommandWord::Axiom),
+    (b"production", CommandWord::Production),
+    (b"drop", CommandWord::Drop),
+    (b"ignore", CommandWord::Ignore),
+    (b"schedule", CommandWord::Schedule),
+    (b"seed", CommandWord::Seed),
+    (b"depth", CommandWord::Depth),
+    (b"lattice", CommandWord::Lattice),
+    (b"hom", CommandWord::Homomorphism),
+    (b"string", CommandWord::String),
+    (b"segments", CommandWord::Segments),
+    (b"svg", CommandWord::Svg),
+    (b"show", CommandWord::Show),
+    (b"quit", CommandWord::Quit),
+    (b"version", CommandWord::Version),
+    (b"ignoring", CommandWord::Ignoring),
+    (b"consider", CommandWord::Consider),
+    (b"common", CommandWord::Common),
+    (b"lineage", CommandWord::Lineage),
+];
+
+// Each word that names a lattice.
+const LATTICE_WORDS: [(&[u8], LatticeName); 3] = [
+    (b"square", LatticeName::Square),
+    (b"hexagonal", LatticeName::Hexagonal),
+    (b"cubic", LatticeName::Cubic),
+];
+
+// Each word that names a numbering.
+const NUMBERING_WORDS: [(&[u8], Numbering); 2] = [
+    (b"places", Numbering::ByPlace),
+    (b"names", Numbering::ByName),
+];
+
 /// The command that a word begins, where it begins one.
 pub(crate) fn command_word(word: Word) -> Option<CommandWord>
     ensures { first_word word ≡ word_state_in result }
@@ -54,47 +90,29 @@ pub(crate) fn numbering_name(word: Word) -> Option<Numbering>
 fn command_named(text: &[u8]) -> Option<CommandWord>
     ensures { first_word text.now ≡ word_state_in result }
 {
-    match text {
-        b"axiom" => Some(CommandWord::Axiom),
-        b"production" => Some(CommandWord::Production),
-        b"drop" => Some(CommandWord::Drop),
-        b"ignore" => Some(CommandWord::Ignore),
-        b"schedule" => Some(CommandWord::Schedule),
-        b"seed" => Some(CommandWord::Seed),
-        b"depth" => Some(CommandWord::Depth),
-        b"lattice" => Some(CommandWord::Lattice),
-        b"hom" => Some(CommandWord::Homomorphism),
-        b"string" => Some(CommandWord::String),
-        b"segments" => Some(CommandWord::Segments),
-        b"svg" => Some(CommandWord::Svg),
-        b"show" => Some(CommandWord::Show),
-        b"quit" => Some(CommandWord::Quit),
-        b"version" => Some(CommandWord::Version),
-        b"ignoring" => Some(CommandWord::Ignoring),
-        b"consider" => Some(CommandWord::Consider),
-        b"common" => Some(CommandWord::Common),
-        b"lineage" => Some(CommandWord::Lineage),
-        _ => None,
-    }
+    meaning_in(&COMMAND_WORDS, text)
 }
 
 fn lattice_with(text: &[u8]) -> Option<LatticeName>
     ensures { lattice_named text.now ≡ lattice_state_in result }
 {
-    match text {
-        b"square" => Some(LatticeName::Square),
-        b"hexagonal" => Some(LatticeName::Hexagonal),
-        b"cubic" => Some(LatticeName::Cubic),
-        _ => None,
-    }
+    meaning_in(&LATTICE_WORDS, text)
 }
 
 fn numbering_with(text: &[u8]) -> Option<Numbering>
     ensures { numbering_named text.now ≡ numbering_state_in result }
 {
-    match text {
-        b"places" => Some(Numbering::ByPlace),
-        b"names" => Some(Numbering::ByName),
-        _ => None,
+    meaning_in(&NUMBERING_WORDS, text)
+}
+
+// What a text means by a table of words, where it is one of them.
+fn meaning_in<T: Copy>(table: &[(&[u8], T)], text: &[u8]) -> Option<T>
+    ensures { result ≡ meaning_in table.now text.now }
+{
+    for (word, meaning) in table {
+        if text == *word {
+            return Some(*meaning);
+        }
     }
+    None
 }

@@ -3,6 +3,7 @@ ghost use Rattle.std.specs.Prelude.{◌≡◌, ◌<◌, IfOk, Ok, option_map};
 ghost use Rattle.lsys_match.specs.Asks.{IsMade, IsMadeIfAny, KeepsStore};
 ghost use Rattle.lsys_match.specs.declared.asked.Asked.TheVariants.{New};
 
+use crate::same::{is_same, is_same_at};
 use crate::systems::{level_of, system_after};
 use lsys_io::{Buffered, MemorySink};
 use lsys_level::{FlatSpot, LevelView, Sight};
@@ -128,7 +129,7 @@ fn is_a_fault(
     kind: FaultKind,
 ) -> Result<(), Fail> {
     let fault = answer(alloc, lines, place)?.err();
-    assert_eq!(rt; fault, Some(kind));
+    is_same(rt, &fault, &Some(kind));
     Ok(())
 }
 
@@ -247,9 +248,18 @@ const SECOND: &[&str] = &[
 fn a_draw_goes_by_ancestry_and_not_by_place(rt: HostRuntime) -> Result<(), Fail> {
     let alone = answer(rt.alloc(), ALONE, 0)?;
     let second = answer(rt.alloc(), SECOND, 1)?;
-    assert!(rt; alone.is_ok());
-    assert_eq!(rt; alone, second);
+    are_the_same_successor(&rt, &alone, &second);
     Ok(())
+}
+
+/// Two answers are successors, and the same.
+fn are_the_same_successor(
+    rt: &impl Abort,
+    first: &Result<Vec<u8>, FaultKind>,
+    second: &Result<Vec<u8>, FaultKind>,
+) {
+    assert!(rt; first.is_ok());
+    is_same(rt, first, second);
 }
 
 /// `A`, so many times `B`, and `C`, as an axiom.
@@ -273,20 +283,20 @@ fn far_apart(alloc: Global, between: usize) -> Result<Result<Vec<u8>, FaultKind>
 #[test]
 fn the_1025th_entry_is_too_far(rt: HostRuntime) -> Result<(), Fail> {
     let near = far_apart(rt.alloc(), 1023)?.map(|text| text.len());
-    assert_eq!(rt; near, Ok(1));
+    is_same(&rt, &near, &Ok(1));
     let far = far_apart(rt.alloc(), 1024)?.err();
-    assert_eq!(rt; far, Some(FaultKind::TooFar));
+    is_same(&rt, &far, &Some(FaultKind::TooFar));
     Ok(())
 }
 
 #[test]
 fn an_answer_is_small(rt: HostRuntime) -> Result<(), Fail> {
-    assert_eq!(rt; size_of::<Answer<Brand>>(), 96);
+    is_same(&rt, &size_of::<Answer<Brand>>(), &96);
     Ok(())
 }
 
 /// Whether the same is asked at this place as before.
-fn is_same<L: Ledger, V: Ledger>(
+fn asks_the_same<L: Ledger, V: Ledger>(
     alloc: Global,
     store: &mut AnswerStore,
     system: &System,
@@ -357,7 +367,7 @@ fn asked_again<L: Ledger, V: Ledger>(
 ) -> Result<Again, AllocError>
     requires { IsMade store.old old }
 {
-    let same = is_same(alloc, store, then, 0, &old, asked, visited)?;
+    let same = asks_the_same(alloc, store, then, 0, &old, asked, visited)?;
     let entries = old.trace(store).len();
     let values = old.values(store).len();
     old.release(store);
@@ -384,7 +394,7 @@ fn is_asked_again(
     same: bool,
 ) -> Result<(), Fail> {
     let again = told(alloc, before, after)?;
-    assert_eq!(rt; again.same, same, "{after:?}");
+    is_same_at(rt, &again.same, &same, &after);
     Ok(())
 }
 
@@ -397,7 +407,7 @@ fn a_trace_has_what_was_read(rt: HostRuntime) -> Result<(), Fail> {
         entries: 1,
         values: 1,
     };
-    assert_eq!(rt; told(rt.alloc(), LINES, LINES)?, expected);
+    is_same(&rt, &told(rt.alloc(), LINES, LINES)?, &expected);
     Ok(())
 }
 

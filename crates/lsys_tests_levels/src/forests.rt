@@ -9,6 +9,7 @@ ghost use Rattle.lsys_forest.specs.Rows.{complete_levels};
 ghost use Rattle.lsys_tests_levels.specs.Forests.{GivesKids, GrowsNode};
 
 use crate::forest_levels::{contexts_that_skip, walk};
+use crate::same::is_same;
 use lsys_forest::{Forest, Kept, NodeId};
 use lsys_module::Symbol;
 use lsys_region::room;
@@ -110,7 +111,7 @@ fn a_root_keeps_an_answer(rt: HostRuntime) -> Result<(), Fail> {
 fn has_an_answer_and_no_child(rt: &impl Abort, forest: &Forest<Mark>) {
     let root = forest.root();
     assert!(rt; forest.answer(root).is_some());
-    assert_eq!(rt; forest.children(root).len(), 0);
+    is_same(rt, &forest.children(root).len(), &0);
 }
 
 /// Each symbol of the first level of a forest, by the numbers of the nodes, behind it its mate; and then all from the right to
@@ -131,10 +132,22 @@ const SECOND: [u32; 66] = [
 #[test]
 fn contexts_that_skip_are_walked_both_ways(rt: HostRuntime) -> Result<(), Fail> {
     let forest = two_levels(rt.alloc(), &contexts_that_skip())?;
-    let first = walk(rt.alloc(), &forest, 0)?;
-    assert_eq!(rt; first.as_slice(), FIRST.as_slice());
-    let second = walk(rt.alloc(), &forest, 1)?;
-    assert_eq!(rt; second.as_slice(), SECOND.as_slice());
+    is_walked(&rt, rt.alloc(), &forest, 0, &FIRST)?;
+    is_walked(&rt, rt.alloc(), &forest, 1, &SECOND)
+}
+
+/// These tags are read where a level of a forest is walked both ways.
+fn is_walked(
+    rt: &impl Abort,
+    alloc: Global,
+    forest: &Forest<Mark>,
+    level: u32,
+    want: &[u32],
+) -> Result<(), Fail>
+    requires { level < length (complete_levels forest.now) }
+{
+    let read = walk(alloc, forest, level)?;
+    is_same(rt, &read.as_slice(), &want);
     Ok(())
 }
 
@@ -142,12 +155,8 @@ fn contexts_that_skip_are_walked_both_ways(rt: HostRuntime) -> Result<(), Fail> 
 fn levels_that_are_linked_are_walked_as_others(rt: HostRuntime) -> Result<(), Fail> {
     let mut forest = two_levels(rt.alloc(), &contexts_that_skip())?;
     forest.link(0);
-    let second = walk(rt.alloc(), &forest, 1)?;
-    assert_eq!(rt; second.as_slice(), SECOND.as_slice());
+    is_walked(&rt, rt.alloc(), &forest, 1, &SECOND)?;
     forest.link(1);
-    let first = walk(rt.alloc(), &forest, 0)?;
-    assert_eq!(rt; first.as_slice(), FIRST.as_slice());
-    let second = walk(rt.alloc(), &forest, 1)?;
-    assert_eq!(rt; second.as_slice(), SECOND.as_slice());
-    Ok(())
+    is_walked(&rt, rt.alloc(), &forest, 0, &FIRST)?;
+    is_walked(&rt, rt.alloc(), &forest, 1, &SECOND)
 }

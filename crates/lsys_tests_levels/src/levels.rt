@@ -7,10 +7,12 @@ ghost use Rattle.lsys_level.specs.Spots.{IsSpot};
 ghost use Rattle.lsys_level.specs.Tags.{HasOwnTags, HasTagsBelow};
 ghost use Rattle.lsys_level.specs.Places.{has_cut};
 
+use crate::same::is_same;
 use lsys_level::{FlatLevels, LevelView, Sight, Tag, copy_level};
 use lsys_module::{Module, Params, Symbol, SymbolList};
 use lsys_text::Name;
 use std::alloc::{AllocError, Global};
+use std::process::Abort;
 use std::test::Fail;
 
 /// A module without parameters.
@@ -151,9 +153,24 @@ fn a_level_is_walked_both_ways_and_each_mate_is_read(rt: HostRuntime) -> Result<
         16, 14, 14, 15, 15, 16, 13, 17, 17, 18, 10, 19, 19, 20, 20, 21, 21, 22, 7, 22, 21, 20, 19,
         18, 17, 16, 15, 14, 13, 12, 11, 10, 9, 8, 7, 6, 5, 4, 3, 2, 1, 0,
     ];
-    assert_eq!(rt; read.as_slice(), want.as_slice());
+    is_same(&rt, &read.as_slice(), &want.as_slice());
     let copy = copy_level(rt.alloc(), &levels, 0)?;
     assert!(rt; copy.symbols() == symbols.as_slice());
+    Ok(())
+}
+
+/// The modules of a level have these parameters, each module's followed by its key.
+fn have_parameters(
+    rt: &impl Abort,
+    alloc: Global,
+    levels: &FlatLevels,
+    level: u32,
+    want: &[i64],
+) -> Result<(), Fail>
+    requires { level < length levels.now }
+{
+    let read = parameters(alloc, levels, level)?;
+    is_same(rt, &read.as_slice(), &want);
     Ok(())
 }
 
@@ -182,15 +199,8 @@ fn parameters_and_keys_are_read_level_by_level(rt: HostRuntime) -> Result<(), Fa
         ],
         1,
     )?;
-    assert_eq!(rt;
-        parameters(rt.alloc(), &levels, 0)?.as_slice(),
-        [100].as_slice()
-    );
-    assert_eq!(rt; parameters(rt.alloc(), &levels, 1)?.len(), 0);
+    have_parameters(&rt, rt.alloc(), &levels, 0, &[100])?;
+    have_parameters(&rt, rt.alloc(), &levels, 1, &[])?;
     let want = [-7, 100, 101, 1, 2, 3, 4, 5, 6, 7, 8, 102, 103];
-    assert_eq!(rt;
-        parameters(rt.alloc(), &levels, 2)?.as_slice(),
-        want.as_slice()
-    );
-    Ok(())
+    have_parameters(&rt, rt.alloc(), &levels, 2, &want)
 }

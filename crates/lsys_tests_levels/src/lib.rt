@@ -16,6 +16,8 @@ mod pictures;
 #[cfg(test)]
 mod readers;
 #[cfg(test)]
+mod same;
+#[cfg(test)]
 mod systems;
 #[cfg(test)]
 mod texts;

@@ -5,6 +5,7 @@ ghost use Rattle.lsys_module.specs.Views.{symbol_of};
 ghost use Rattle.lsys_turtle.specs.Ways.{saved_after};
 ghost use Rattle.lsys_tests_levels.specs.Turtles.{TellsStep};
 
+use crate::same::{is_same, is_same_at};
 use crate::systems::system_after;
 use crate::views::view_of;
 use lsys_expr::Arith;
@@ -140,15 +141,15 @@ fn is_drawn<T: Lattice>(
     count: u32,
 ) -> Result<(), Fail> {
     let (drawn, end) = over_axiom::<T>(alloc, lines)?;
-    assert_eq!(rt; end, End::Whole);
+    is_same(rt, &end, &End::Whole);
     begins_with(rt, &drawn, first, count);
     Ok(())
 }
 
 /// These are the first segments, of so many.
 fn begins_with(rt: &impl Abort, drawn: &Drawn, first: &[Line], count: u32) {
-    assert_eq!(rt; drawn.first.as_slice(), first);
-    assert_eq!(rt; drawn.count, count);
+    is_same(rt, &drawn.first.as_slice(), &first);
+    is_same(rt, &drawn.count, &count);
 }
 
 /// The way over the axiom of the system that these lines make ends so, with this segment as the last.
@@ -160,8 +161,8 @@ fn is_ended(
     end: End,
 ) -> Result<(), Fail> {
     let (drawn, ended) = over_axiom::<Square>(alloc, lines)?;
-    assert_eq!(rt; ended, end, "{lines:?}");
-    assert_eq!(rt; drawn.last, last, "{lines:?}");
+    is_same_at(rt, &ended, &end, &lines);
+    is_same_at(rt, &drawn.last, &last, &lines);
     Ok(())
 }
 
@@ -217,15 +218,15 @@ const SIDE: &[Line] = &[
 /// So many segments are drawn over the axiom of the system that these lines make, and the last ends where the first begins.
 fn is_closed(rt: &impl Abort, alloc: Global, lines: &[&str], count: u32) -> Result<(), Fail> {
     let (drawn, end) = over_axiom::<Square>(alloc, lines)?;
-    assert_eq!(rt; end, End::Whole);
+    is_same(rt, &end, &End::Whole);
     ends_at_the_origin(rt, &drawn, count);
     Ok(())
 }
 
 /// So many segments are drawn, and the last ends where a turtle begins.
 fn ends_at_the_origin(rt: &impl Abort, drawn: &Drawn, count: u32) {
-    assert_eq!(rt; drawn.count, count);
-    assert_eq!(rt; drawn.last.map(|line| line.1), Some((0, 0, 0)));
+    is_same(rt, &drawn.count, &count);
+    is_same(rt, &drawn.last.map(|line| line.1), &Some((0, 0, 0)));
 }
 
 /// The quadratic Koch island (ABOP 1.3): the image is its first level, and that level's image the second.
@@ -297,15 +298,16 @@ fn letter(text: &[u8]) -> Symbol
 #[test]
 fn the_largest_image(rt: HostRuntime) -> Result<(), Fail> {
     let (drawn, end) = over_large(rt.alloc(), 125, 0)?;
-    assert_eq!(rt; end, End::Whole);
-    assert_eq!(rt; drawn.count, 1_000_000);
+    is_same(&rt, &end, &End::Whole);
+    is_same(&rt, &drawn.count, &1_000_000);
     Ok(())
 }
 
 /// The image of so many modules is too large.
 fn is_too_large(rt: &impl Abort, alloc: Global, letters: usize, more: usize) -> Result<(), Fail> {
     let (_, end) = over_large(alloc, letters, more)?;
-    assert_eq!(rt; end, End::Image(ImageRefusal::Limit), "{letters} {more}");
+    let limit = End::Image(ImageRefusal::Limit);
+    is_same_at(rt, &end, &limit, &(letters, more));
     Ok(())
 }
 

@@ -1,4 +1,5 @@
 //! Pictures as texts: lists of segments, and SVG.
+use crate::same::{is_same, is_same_at};
 use crate::systems::system_after;
 use crate::views::view_of;
 use lsys_expr::Arith;
@@ -57,11 +58,16 @@ fn put_after(alloc: Global, lines: &[&str], text: Text, room: usize) -> Result<P
     }
 }
 
+/// This text is put for the system that lines make.
+fn is_put(rt: &impl Abort, text: &[u8], expected: &str, lines: &[&str]) {
+    assert!(rt; text == expected.as_bytes(), "{lines:?}");
+}
+
 /// The axiom's picture is this list.
 fn is_listed(rt: &impl Abort, alloc: Global, lines: &[&str], expected: &str) -> Result<(), Fail> {
     let (answer, text) = put_after(alloc, lines, Text::Segments, 4096)?;
-    assert_eq!(rt; answer, Ok(()), "{lines:?}");
-    assert!(rt; text.as_slice() == expected.as_bytes(), "{lines:?}");
+    is_same_at(rt, &answer, &Ok(()), &lines);
+    is_put(rt, text.as_slice(), expected, lines);
     Ok(())
 }
 
@@ -102,11 +108,11 @@ fn lists_of_segments(rt: HostRuntime) -> Result<(), Fail> {
 /// The axiom's picture is this as SVG, between what stands at both ends of each.
 fn is_svg(rt: &impl Abort, alloc: Global, lines: &[&str], expected: &str) -> Result<(), Fail> {
     let (answer, text) = put_after(alloc, lines, Text::Svg, 4096)?;
-    assert_eq!(rt; answer, Ok(()), "{lines:?}");
+    is_same_at(rt, &answer, &Ok(()), &lines);
     let mut whole = String::from_str(alloc, "<svg xmlns=\"http://www.w3.org/2000/svg\" ")?;
     whole.push_str(expected)?;
     whole.push_str("</svg>\n")?;
-    assert!(rt; text.as_slice() == whole.as_str().as_bytes(), "{lines:?}");
+    is_put(rt, text.as_slice(), whole.as_str(), lines);
     Ok(())
 }
 
@@ -145,13 +151,18 @@ fn pictures_as_svg(rt: HostRuntime) -> Result<(), Fail> {
 fn the_list_of_the_koch_island(rt: HostRuntime) -> Result<(), Fail> {
     let lines = ["axiom F-F-F-F", "hom f: F => F-F+F+FF-F-F+F"];
     let (answer, text) = put_after(rt.alloc(), &lines, Text::Segments, 4096)?;
-    assert_eq!(rt; answer, Ok(()));
+    is_same(&rt, &answer, &Ok(()));
+    is_the_list_of_the_koch_island(&rt, text.as_slice());
+    Ok(())
+}
+
+/// The list has 32 segments; the first four and the last two are those of the island.
+fn is_the_list_of_the_koch_island(rt: &impl Abort, text: &[u8]) {
     let first = b"segments 32\n0 0 0 0 1 0 1\n0 1 0 1 1 0 1\n1 1 0 1 2 0 1\n1 2 0 0 2 0 1\n";
     let last = b"\n1 -1 0 1 0 0 1\n1 0 0 0 0 0 1\n";
-    assert!(rt; text.as_slice().starts_with(first));
-    assert!(rt; text.as_slice().ends_with(last));
-    assert_eq!(rt; text.iter().filter(|byte| **byte == b'\n').count(), 33);
-    Ok(())
+    assert!(rt; text.starts_with(first));
+    assert!(rt; text.ends_with(last));
+    is_same(rt, &text.iter().filter(|byte| **byte == b'\n').count(), &33);
 }
 
 /// The axiom's picture is refused so, and nothing is put.
@@ -163,8 +174,8 @@ fn is_refused(
     refusal: PictureRefusal,
 ) -> Result<(), Fail> {
     let (answer, text) = put_after(alloc, lines, kind, 4096)?;
-    assert_eq!(rt; answer, Err(refusal), "{lines:?}");
-    assert!(rt; text.is_empty(), "{lines:?}");
+    is_same_at(rt, &answer, &Err(refusal), &lines);
+    is_same_at(rt, &text.len(), &0, &lines);
     Ok(())
 }
 
@@ -206,7 +217,7 @@ fn the_image_is_made_first(rt: HostRuntime) -> Result<(), Fail> {
         module: 2,
     });
     let (answer, _) = put_after(rt.alloc(), &lines, Text::Segments, 4096)?;
-    assert_eq!(rt; answer, Err(fault));
+    is_same(&rt, &answer, &Err(fault));
     Ok(())
 }
 
@@ -214,10 +225,15 @@ fn the_image_is_made_first(rt: HostRuntime) -> Result<(), Fail> {
 fn is_cut_off(rt: &impl Abort, alloc: Global, line: &str, kind: Text) -> Result<(), Fail> {
     let (_, whole) = put_after(alloc, &[line], kind, 100_000)?;
     let (answer, text) = put_after(alloc, &[line], kind, 5000)?;
-    assert_eq!(rt; answer, Err(PictureRefusal::Failed), "{kind:?}");
-    assert_eq!(rt; text.len(), 5000, "{kind:?}");
-    assert!(rt; whole.as_slice().starts_with(text.as_slice()), "{kind:?}");
+    is_same_at(rt, &answer, &Err(PictureRefusal::Failed), &kind);
+    is_a_front(rt, text.as_slice(), whole.as_slice(), kind);
     Ok(())
+}
+
+/// A text of this kind has 5,000 bytes, with which the whole begins.
+fn is_a_front(rt: &impl Abort, text: &[u8], whole: &[u8], kind: Text) {
+    is_same_at(rt, &text.len(), &5000, &kind);
+    assert!(rt; whole.starts_with(text), "{kind:?}");
 }
 
 /// A sink that is full fails in mid-text; what it took is a front of the text.

@@ -3,6 +3,7 @@ ghost use Rattle.lsys_module.specs.Views.{symbol_of};
 ghost use Rattle.lsys_turtle.specs.Ways.{saved_after};
 ghost use Rattle.lsys_tests_levels.specs.Turtles.{TellsStep};
 
+use crate::same::{is_same, is_same_at};
 use lsys_lattice::{Cubic, Hexagonal, Lattice, Place, Square};
 use lsys_module::{Module, Params, Symbol};
 use lsys_text::Name;
@@ -98,8 +99,8 @@ fn a_turtle_goes_round_the_hexagon(rt: HostRuntime) -> Result<(), Fail> {
         ((-1, 2, 0), (-1, 1, 0), 1),
         ((-1, 1, 0), (0, 0, 0), 1),
     ];
-    assert_eq!(rt; lines.as_slice(), expected.as_slice());
-    assert_eq!(rt; far, None);
+    is_same(&rt, &lines.as_slice(), &expected.as_slice());
+    is_same(&rt, &far, &None);
     Ok(())
 }
 
@@ -118,7 +119,7 @@ fn a_turtle_pitches_down_and_up(rt: HostRuntime) -> Result<(), Fail> {
         ((0, 1, 0), (0, 1, -1), 1),
         ((0, 1, -1), (0, 2, -1), 1),
     ];
-    assert_eq!(rt; lines.as_slice(), expected.as_slice());
+    is_same(&rt, &lines.as_slice(), &expected.as_slice());
     Ok(())
 }
 
@@ -146,7 +147,7 @@ fn a_branch_gives_place_frame_and_width_back(rt: HostRuntime) -> Result<(), Fail
         ((-2, 1, 0), (-2, 1, 0), 1),
         ((0, 4, 0), (0, 3, 0), 3),
     ];
-    assert_eq!(rt; lines.as_slice(), expected.as_slice());
+    is_same(&rt, &lines.as_slice(), &expected.as_slice());
     Ok(())
 }
 
@@ -162,8 +163,8 @@ fn the_farthest_place_and_one_past_it(rt: HostRuntime) -> Result<(), Fail> {
             rt.alloc(),
             &[(b'-', None), (b'f', Some(steps)), (b'F', Some(0))],
         )?;
-        assert_eq!(rt; far, most, "by {steps}");
-        assert_eq!(rt; lines.is_empty(), most.is_some());
+        is_same_at(&rt, &far, &most, &steps);
+        is_same_at(&rt, &lines.is_empty(), &most.is_some(), &steps);
     }
     Ok(())
 }

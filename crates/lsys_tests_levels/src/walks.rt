@@ -7,6 +7,7 @@ ghost use Rattle.lsys_level.specs.Places.{has_cut};
 ghost use Rattle.lsys_tests_levels.specs.Walks.{IsSpotIn};
 
 use crate::levels::{contexts_that_skip, letter, push};
+use crate::same::{is_same, is_same_at};
 use lsys_bodies::{Filter, Item, Pattern};
 use lsys_level::{FlatLevels, LevelView};
 use lsys_module::{Module, Params, Symbol};
@@ -15,6 +16,7 @@ use lsys_text::Name;
 use lsys_walks::{Counter, EntryKind, Mark, Reading, Trace, Walked, left_reads, right_reads};
 use std::alloc::{AllocError, Global};
 use std::marker::Brand;
+use std::process::Abort;
 use std::sync::ledger::{Blank, Ledger};
 use std::test::Fail;
 
@@ -284,14 +286,23 @@ fn read_right(
 /// `BC < S > G[H]M` at the `S` of `ABC[DE][SG[HI[JK]L]MNO]`
 #[test]
 fn contexts_skip_branches(rt: HostRuntime) -> Result<(), Fail> {
-    let alloc = rt.alloc();
-    let symbols = contexts_that_skip();
+    skips_on_the_left(&rt, rt.alloc())?;
+    skips_on_the_right(&rt, rt.alloc())
+}
+
+/// `BC < S` there
+fn skips_on_the_left(rt: &impl Abort, alloc: Global) -> Result<(), Fail> {
     let patterns = [pattern(alloc, b"B"), pattern(alloc, b"C")];
-    let read = read_left(alloc, &symbols, 8, ignoring(&[]), &patterns)?;
+    let read = read_left(alloc, &contexts_that_skip(), 8, ignoring(&[]), &patterns)?;
     let want = [
         FOUND, OUT, 0, 7, 0, BRANCH, 0, 3, 6, COMPARED, 0, 2, 0, COMPARED, 0, 1, 0,
     ];
-    assert_eq!(rt; read.as_slice(), want.as_slice());
+    is_same(rt, &read.as_slice(), &want.as_slice());
+    Ok(())
+}
+
+/// `S > G[H]M` there
+fn skips_on_the_right(rt: &impl Abort, alloc: Global) -> Result<(), Fail> {
     let items = [
         Item::Pattern(pattern(alloc, b"G")),
         Item::Push,
@@ -299,11 +310,11 @@ fn contexts_skip_branches(rt: HostRuntime) -> Result<(), Fail> {
         Item::Pop,
         Item::Pattern(pattern(alloc, b"M")),
     ];
-    let read = read_right(alloc, &symbols, 8, ignoring(&[]), &items)?;
+    let read = read_right(alloc, &contexts_that_skip(), 8, ignoring(&[]), &items)?;
     let want = [
         FOUND, COMPARED, 0, 9, 0, BRANCH, 0, 10, 18, COMPARED, 1, 11, 0, COMPARED, 0, 19, 0,
     ];
-    assert_eq!(rt; read.as_slice(), want.as_slice());
+    is_same(rt, &read.as_slice(), &want.as_slice());
     Ok(())
 }
 
@@ -352,7 +363,7 @@ fn a_second_branch_is_tried(rt: HostRuntime) -> Result<(), Fail> {
         FOUND, BRANCH, 0, 1, 3, COMPARED, 1, 2, 0, BRANCH, 0, 4, 6, COMPARED, 1, 5, 0, COMPARED, 0,
         7, 0,
     ];
-    assert_eq!(rt; read.as_slice(), want.as_slice());
+    is_same(&rt, &read.as_slice(), &want.as_slice());
     Ok(())
 }
 
@@ -365,8 +376,8 @@ fn the_1025th_entry_is_too_far(rt: HostRuntime) -> Result<(), Fail> {
     for (between, end, entries) in [(1023, FOUND, 1024), (1024, TOO_FAR, 1025)] {
         let symbols = far_apart(alloc, between)?;
         let read = read_right(alloc, &symbols, 0, ignoring(&ignored), &items)?;
-        assert_eq!(rt; read.first().copied(), Some(end));
-        assert_eq!(rt; read.len(), 1 + 4 * entries);
+        is_same_at(&rt, &read.first().copied(), &Some(end), &between);
+        is_same_at(&rt, &read.len(), &(1 + 4 * entries), &between);
     }
     Ok(())
 }

@@ -1,3 +1,4 @@
+use crate::same::{is_same, is_same_at};
 use lsys_draw::{axiom_key, child_key, draw, pick};
 use std::process::Abort;
 
@@ -16,7 +17,7 @@ fn draws_are_first_words(rt: HostRuntime) {
         (0xfffffffffffffffe, 0xf3203e9039f4a821),
         (0xffffffffffffffff, 0xe4d971771b652c20),
     ] {
-        assert_eq!(rt; draw(key), word, "key {key}");
+        is_same_at(&rt, &draw(key), &word, &key);
     }
 }
 
@@ -27,18 +28,19 @@ fn keys_follow_lineages(rt: HostRuntime) {
         is_the_key(&rt, *seed, *code, *count, *key);
     }
     let child = child_key(axiom_key(9, 0, 2), 0, 0);
-    assert_eq!(rt; child, 0x967dba0b719c2f41);
-    assert_eq!(rt; child_key(child, 0, 5), 0xa4cedb55731a246d);
-    assert_eq!(rt; child_key(child, 66, 1), 0x1761db0462a087b9);
+    is_same(&rt, &child, &0x967dba0b719c2f41);
+    is_same(&rt, &child_key(child, 0, 5), &0xa4cedb55731a246d);
+    is_same(&rt, &child_key(child, 66, 1), &0x1761db0462a087b9);
 }
 
 /// The key of a symbol of the axiom is this.
 fn is_the_key(rt: &impl Abort, seed: u64, code: u64, count: u32, key: u64) {
     assert!(rt; count < 4096);
-    assert_eq!(rt;
-        axiom_key(seed, code, count),
-        key,
-        "seed {seed}, code {code}, count {count}"
+    is_same_at(
+        rt,
+        &axiom_key(seed, code, count),
+        &key,
+        &(seed, code, count),
     );
 }
 
@@ -66,6 +68,6 @@ fn picks_weigh(rt: HostRuntime) {
         (77, [0, 0], None),
     ] {
         assert!(rt; weights[0] < 8 && weights[1] < 8);
-        assert_eq!(rt; pick(draw, &weights), place, "draw {draw}");
+        is_same_at(&rt, &pick(draw, &weights), &place, &draw);
     }
 }

@@ -2,6 +2,7 @@ ghost use Rattle.std.specs.Prelude.{IfOk};
 ghost use Rattle.lsys_syntax.specs.Sentences.{AreTokens};
 ghost use Rattle.lsys_text.specs.Tokens.{kind_row};
 
+use crate::same::{is_same, is_same_at};
 use lsys_expr::{Arith, Expr, build_expr, check_names, eval, holds, scan_expr};
 use lsys_text::{Name, Token, tokens};
 use std::alloc::{AllocError, Global};
@@ -52,8 +53,8 @@ fn expressions_have_their_values(rt: HostRuntime) -> Result<(), Fail> {
 /// An expression has this value, and holds where it isn't 0.
 fn has_value(rt: &impl Abort, alloc: Global, text: &str, want: i64) -> Result<(), Fail> {
     let expr = read(alloc, text)?;
-    assert_eq!(rt; eval(&expr, &[5, -3]), Ok(want), "{text}");
-    assert_eq!(rt; holds(&expr, &[5, -3]), Ok(want != 0), "{text}");
+    is_same_at(rt, &eval(&expr, &[5, -3]), &Ok(want), &text);
+    is_same_at(rt, &holds(&expr, &[5, -3]), &Ok(want != 0), &text);
     Ok(())
 }
 
@@ -104,7 +105,7 @@ fn the_first_fault_is_told(rt: HostRuntime) -> Result<(), Fail> {
 /// The value of an expression is refused so.
 fn has_fault(rt: &impl Abort, alloc: Global, text: &str, want: Arith) -> Result<(), Fail> {
     let expr = read(alloc, text)?;
-    assert_eq!(rt; eval(&expr, &[5, -3]), Err(want), "{text}");
+    is_same_at(rt, &eval(&expr, &[5, -3]), &Err(want), &text);
     Ok(())
 }
 
@@ -130,7 +131,7 @@ fn names_and_kinds_keep_their_places(rt: HostRuntime) -> Result<(), Fail> {
     let found = line_tokens(rt.alloc(), "x+z*w")?;
     names_keep_their_places(&rt, &found);
     let expr = read(rt.alloc(), "(x+1)")?;
-    assert_eq!(rt; expr.kinds().len(), 5);
+    is_same(&rt, &expr.kinds().len(), &5);
     is_told(
         &rt,
         format!(in rt.alloc(); "{}", Arith::DivideByZero),
@@ -143,8 +144,12 @@ fn names_keep_their_places(rt: &impl Abort, found: &[Token]) {
     let formals = [Name::from_text(b"x"), Name::from_text(b"w")];
     let end = BEGIN + 5;
     assert!(rt; end <= found.len());
-    assert_eq!(rt; check_names(found, BEGIN, end, &formals), Some(BEGIN + 2));
-    assert_eq!(rt; check_names(found, BEGIN, BEGIN + 2, &formals), None);
+    is_same(
+        rt,
+        &check_names(found, BEGIN, end, &formals),
+        &Some(BEGIN + 2),
+    );
+    is_same(rt, &check_names(found, BEGIN, BEGIN + 2, &formals), &None);
 }
 
 /// A text is this one.
@@ -154,6 +159,6 @@ pub(crate) fn is_told(
     want: &str,
 ) -> Result<(), Fail> {
     let text = text?;
-    assert_eq!(rt; text.as_str(), want);
+    is_same(rt, &text.as_str(), &want);
     Ok(())
 }

@@ -1,3 +1,4 @@
+use crate::same::is_same;
 use lsys_expr::scan_expr;
 use lsys_text::{PlaceRefusal, tokens};
 use std::alloc::Global;
@@ -32,7 +33,7 @@ fn outline(rt: &impl Abort, alloc: Global, expression: &str) -> Result<String, F
 fn are_outlined(rt: &impl Abort, alloc: Global, rows: &[(&str, &str)]) -> Result<(), Fail> {
     for (expression, want) in rows {
         let text = outline(rt, alloc, *expression)?;
-        assert_eq!(rt; text.as_str(), *want);
+        is_same(rt, &text.as_str(), want);
     }
     Ok(())
 }
@@ -100,7 +101,11 @@ fn rows_that_stop() -> &'static [(&'static str, &'static str)] {
 
 #[test]
 fn expressions_nested_32_deep_are_whole(rt: HostRuntime) -> Result<(), Fail> {
-    let rows: [(&str, &str); 6] = [
+    are_outlined(&rt, rt.alloc(), rows_of_whole_nests())
+}
+
+fn rows_of_whole_nests() -> &'static [(&'static str, &'static str)] {
+    &[
         (
             "((((((((((((((((((((((((((((((((x)))))))))))))))))))))))))))))))))",
             "ends 90",
@@ -119,12 +124,7 @@ fn expressions_nested_32_deep_are_whole(rt: HostRuntime) -> Result<(), Fail> {
             "(x^(x^(x^(x^(x^(x^(x^(x^(x^(x^(x^(x^(x^(x^(x^(x^x)))))))))))))))))",
             "ends 90",
         ),
-    ];
-    for (expression, want) in rows {
-        let text = outline(&rt, rt.alloc(), expression)?;
-        assert_eq!(rt; text.as_str(), want);
-    }
-    Ok(())
+    ]
 }
 
 #[test]

@@ -21,6 +21,8 @@ mod read_lines;
 #[cfg(test)]
 mod rules;
 #[cfg(test)]
+mod same;
+#[cfg(test)]
 mod shows;
 #[cfg(test)]
 mod sinks;

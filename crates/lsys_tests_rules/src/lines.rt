@@ -1,5 +1,6 @@
 //! Lines, and what they are for or where they are refused.
 
+use crate::same::is_same_at;
 use lsys_reading::{CommandKind, Refusal, parse_command};
 use lsys_text::tokens;
 use std::alloc::Global;
@@ -35,7 +36,7 @@ fn kind_name(kind: CommandKind) -> &'static str {
 /// A line is for this, or refused so.
 fn is_outlined(rt: &impl Abort, alloc: Global, line: &str, want: &str) -> Result<(), Fail> {
     let text = outline(rt, alloc, line)?;
-    assert_eq!(rt; text.as_str(), want, "{line:?}");
+    is_same_at(rt, &text.as_str(), &want, &line);
     Ok(())
 }
 

@@ -1,6 +1,7 @@
 //! Lines of a source in memory.
 ghost use Rattle.std.specs.Prelude.{◌<◌};
 
+use crate::same::{is_same, is_same_at};
 use lsys_io::{LineRead, LineReader, LineRefusal, MemorySource, NeverSource, Source};
 use std::alloc::{AllocError, Global};
 use std::process::Abort;
@@ -57,7 +58,7 @@ fn is_read(
 {
     let mut source = MemorySource::new(Vec::from_slice(alloc, bytes)?, piece, failing);
     let text = answers(alloc, &mut source, 3)?;
-    assert_eq!(rt; text.as_slice(), expected.as_bytes(), "by {piece}");
+    is_same_at(rt, &text.as_slice(), &expected.as_bytes(), &piece);
     Ok(())
 }
 
@@ -134,10 +135,15 @@ fn is_read_whole(rt: &impl Abort, alloc: Global, piece: usize) -> Result<(), Fai
     let script = comment_then_b(alloc, 65_536)?;
     let mut source = MemorySource::new(script, piece, Vec::new(alloc));
     let mut reader = LineReader::new(alloc)?;
-    assert_eq!(rt; reader.next_line(&mut source), Ok(LineRead::Line));
-    assert_eq!(rt; reader.line().len(), 65_536);
-    assert_eq!(rt; reader.line().first(), Some(&b';'));
+    gives_the_comment(rt, &mut reader, &mut source);
     Ok(())
+}
+
+/// The next line of a reader is a comment of 65,536 bytes.
+fn gives_the_comment(rt: &impl Abort, reader: &mut LineReader, source: &mut MemorySource) {
+    is_same(rt, &reader.next_line(source), &Ok(LineRead::Line));
+    is_same(rt, &reader.line().len(), &65_536);
+    is_same(rt, &reader.line().first(), &Some(&b';'));
 }
 
 #[test]
@@ -174,11 +180,21 @@ fn ends_so(
     let mut source = NeverSource::new(vec![in alloc; b'\n'; size]?);
     let mut reader = LineReader::new(alloc)?;
     for _ in 0..16_777_216 {
-        assert_eq!(rt; reader.next_line(&mut source), Ok(LineRead::Line));
+        is_next(rt, &mut reader, &mut source, Ok(LineRead::Line));
     }
-    assert_eq!(rt; reader.next_line(&mut source), last);
-    assert_eq!(rt; reader.next_line(&mut source), last);
+    is_next(rt, &mut reader, &mut source, last);
+    is_next(rt, &mut reader, &mut source, last);
     Ok(())
+}
+
+/// The next call of a reader is answered so.
+fn is_next(
+    rt: &impl Abort,
+    reader: &mut LineReader,
+    source: &mut NeverSource,
+    want: Result<LineRead, LineRefusal>,
+) {
+    is_same(rt, &reader.next_line(source), &want);
 }
 
 #[test]
@@ -191,7 +207,7 @@ fn the_longest_script_and_a_longer_one(rt: HostRuntime) -> Result<(), Fail> {
 fn is_one_line(rt: &impl Abort, alloc: Global, size: usize, expected: &str) -> Result<(), Fail> {
     let mut source = NeverSource::new(vec![in alloc; b'a'; size]?);
     let text = answers(alloc, &mut source, 2)?;
-    assert_eq!(rt; text.as_slice(), expected.as_bytes());
+    is_same(rt, &text.as_slice(), &expected.as_bytes());
     Ok(())
 }
 

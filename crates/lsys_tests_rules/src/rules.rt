@@ -1,4 +1,5 @@
 //! Commands, and what they make of a system: which lines are refused and at which column, and what stays.
+use crate::same::{is_same, is_same_at};
 use lsys_rules::{
     Command, CommandKind, LatticeKind, Refusal, Rule, SharedBody, System, Template, apply,
     parse_command,
@@ -45,7 +46,7 @@ pub(crate) fn system_after(alloc: Global, lines: &[&str]) -> Result<System, Allo
 /// A line is for this.
 fn is_for(rt: &impl Abort, alloc: Global, line: &str, kind: CommandKind) {
     let answered = command_of(alloc, line).map(|command| command.kind());
-    assert_eq!(rt; answered, Ok(kind), "{line:?}");
+    is_same_at(rt, &answered, &Ok(kind), &line);
 }
 
 fn kind_rows() -> &'static [(&'static str, CommandKind)] {
@@ -88,7 +89,7 @@ fn is_refused(
     refusal: Option<Refusal>,
 ) {
     let answered = answer(alloc, system, line).err();
-    assert_eq!(rt; answered, refusal, "{line:?}");
+    is_same_at(rt, &answered, &refusal, &line);
 }
 
 fn refused_rows() -> &'static [(&'static str, Refusal)] {
@@ -227,7 +228,7 @@ fn has_one_rule(
     let Some(rule) = system.group_rule(level, name, 0, 0) else {
         return Err(Fail::from(AllocError));
     };
-    assert_eq!(rt; rule.label.text().as_bytes(), label.as_bytes());
+    is_same(rt, &rule.label.text().as_bytes(), &label.as_bytes());
     assert!(rt; system.group_rule(level, name, 0, 1).is_none());
     assert!(rt; system.group_rule(level, name, 1, 0).is_none());
     Ok(())
@@ -248,9 +249,14 @@ fn is_left_without_a(rt: &impl Abort, alloc: Global, system: &System) -> Result<
     let Ok(other) = answer(alloc, system, "drop a") else {
         return Err(Fail::from(AllocError));
     };
-    assert_eq!(rt; other.rules().len(), 1);
-    assert!(rt; other.group_rule(0, Name::from_text(b"A"), 0, 0).is_none());
+    has_one_rule_and_none_of_a(rt, &other);
     Ok(())
+}
+
+/// There is one rule, and it isn't for an `A`.
+fn has_one_rule_and_none_of_a(rt: &impl Abort, system: &System) {
+    is_same(rt, &system.rules().len(), &1);
+    assert!(rt; system.group_rule(0, Name::from_text(b"A"), 0, 0).is_none());
 }
 
 /// The table of each level gives an `A` its rule.
@@ -264,8 +270,8 @@ fn levels_have_their_rules(rt: &impl Abort, system: &System) -> Result<(), Fail>
 
 /// Two tables, one behind the other in the schedule.
 fn has_two_tables(rt: &impl Abort, system: &System) {
-    assert_eq!(rt; system.tables().len(), 2);
-    assert_eq!(rt; system.schedule().len(), 2);
+    is_same(rt, &system.tables().len(), &2);
+    is_same(rt, &system.schedule().len(), &2);
 }
 
 #[test]
@@ -299,30 +305,30 @@ fn edits_and_what_they_leave(rt: HostRuntime) -> Result<(), Fail> {
 
 /// What the edits set.
 fn has_its_numbers(rt: &impl Abort, system: &System) {
-    assert_eq!(rt; system.axiom().len(), 5);
-    assert_eq!(rt; system.depth(), 3);
-    assert_eq!(rt; system.seed(), 7);
-    assert!(rt; system.lattice() == LatticeKind::Cubic);
-    assert_eq!(rt; system.hom_rules().len(), 1);
+    is_same(rt, &system.axiom().len(), &5);
+    is_same(rt, &system.depth(), &3);
+    is_same(rt, &system.seed(), &7);
+    is_same(rt, &system.lattice(), &LatticeKind::Cubic);
+    is_same(rt, &system.hom_rules().len(), &1);
 }
 
 /// What contexts pass over then.
 fn passes_over_its_names(rt: &impl Abort, system: &System) {
-    assert_eq!(rt; system.ignored().len(), 3);
+    is_same(rt, &system.ignored().len(), &3);
     assert!(rt; system.ignores(0, Name::from_text(b"F_a")));
     assert!(rt; !system.ignores(0, Name::from_text(b"F")));
 }
 
 /// A rule for `X(n, m)` has these parts.
 fn is_the_rule_of_x(rt: &impl Abort, body: &SharedBody) -> Result<(), Fail> {
-    assert_eq!(rt; body.predecessor().arity(), 2);
+    is_same(rt, &body.predecessor().arity(), &2);
     assert!(rt; body.condition().is_some());
-    assert_eq!(rt; body.successor().len(), 2);
+    is_same(rt, &body.successor().len(), &2);
     let Some(Template::Module { name, params }) = body.successor().get(1) else {
         return Err(Fail::from(AllocError));
     };
-    assert!(rt; name.text().as_bytes() == b"Z".as_slice());
-    assert_eq!(rt; params.len(), 2);
+    is_same(rt, &name.text().as_bytes(), &b"Z".as_slice());
+    is_same(rt, &params.len(), &2);
     Ok(())
 }
 
@@ -342,11 +348,11 @@ fn a_rule_is_put_in_the_place_of_its_label(rt: HostRuntime) -> Result<(), Fail> 
 
 /// There are two rules, and the first is `p`, that of `x`.
 fn begin_with_p(rt: &impl Abort, rules: &[Rule]) -> Result<(), Fail> {
-    assert_eq!(rt; rules.len(), 2);
+    is_same(rt, &rules.len(), &2);
     let Some(first) = rules.first() else {
         return Err(Fail::from(AllocError));
     };
-    assert!(rt; first.label.text().as_bytes() == b"p".as_slice());
+    is_same(rt, &first.label.text().as_bytes(), &b"p".as_slice());
     is_the_rule_of_x(rt, &first.body)
 }
 

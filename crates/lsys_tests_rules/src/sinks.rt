@@ -1,33 +1,39 @@
 //! Sinks in memory, and what is buffered before them.
+use crate::same::is_same;
 use lsys_io::{Buffered, Failed, MemorySink, NeverSink, Sink, send_all};
 use std::alloc::Global;
 use std::process::Abort;
 use std::test::Fail;
 
+/// A sink answers so where it is sent these bytes.
+fn is_sent<S: Sink>(rt: &impl Abort, sink: &mut S, bytes: &[u8], want: Result<(), Failed>) {
+    is_same(rt, &send_all(sink, bytes), &want);
+}
+
 #[test]
 fn a_sink_takes_what_it_has_room_for(rt: HostRuntime) -> Result<(), Fail> {
     let mut sink = MemorySink::new(rt.alloc(), 10, 3, Vec::new(rt.alloc()))?;
-    assert_eq!(rt; send_all(&mut sink, b"abcdefgh"), Ok(()));
-    assert_eq!(rt; sink.bytes(), b"abcdefgh".as_slice());
-    assert_eq!(rt; send_all(&mut sink, b"ijk"), Err(Failed));
-    assert_eq!(rt; sink.bytes(), b"abcdefghij".as_slice());
+    is_sent(&rt, &mut sink, b"abcdefgh", Ok(()));
+    is_same(&rt, &sink.bytes(), &b"abcdefgh".as_slice());
+    is_sent(&rt, &mut sink, b"ijk", Err(Failed));
+    is_same(&rt, &sink.bytes(), &b"abcdefghij".as_slice());
     Ok(())
 }
 
 #[test]
 fn a_sink_fails_at_the_call_that_it_is_told(rt: HostRuntime) -> Result<(), Fail> {
     let mut sink = MemorySink::new(rt.alloc(), 10, 10, vec![in rt.alloc(); 1]?)?;
-    assert_eq!(rt; send_all(&mut sink, b"ab"), Err(Failed));
-    assert_eq!(rt; send_all(&mut sink, b"cd"), Ok(()));
-    assert_eq!(rt; sink.bytes(), b"cd".as_slice());
+    is_sent(&rt, &mut sink, b"ab", Err(Failed));
+    is_sent(&rt, &mut sink, b"cd", Ok(()));
+    is_same(&rt, &sink.bytes(), &b"cd".as_slice());
     Ok(())
 }
 
 #[test]
 fn a_sink_that_never_fails_counts(rt: HostRuntime) -> Result<(), Fail> {
     let mut sink = NeverSink::new();
-    assert_eq!(rt; send_all(&mut sink, b"abc"), Ok(()));
-    assert_eq!(rt; sink.count(), 3);
+    is_sent(&rt, &mut sink, b"abc", Ok(()));
+    is_same(&rt, &sink.count(), &3);
     Ok(())
 }
 
@@ -39,7 +45,7 @@ fn is_put(
     expected: &mut Vec<u8>,
     bytes: &[u8],
 ) -> Result<(), Fail> {
-    assert_eq!(rt; out.put(sink, bytes), Ok(()));
+    is_same(rt, &out.put(sink, bytes), &Ok(()));
     expected.extend_from_slice(bytes)?;
     Ok(())
 }
@@ -61,7 +67,7 @@ fn numbers_are_put(
     expected: &mut Vec<u8>,
 ) -> Result<(), Fail> {
     for (number, text) in numbers_in_text() {
-        assert_eq!(rt; out.put_number(sink, *number), Ok(()));
+        is_same(rt, &out.put_number(sink, *number), &Ok(()));
         expected.extend_from_slice(text.as_bytes())?;
     }
     Ok(())
@@ -83,15 +89,20 @@ fn buffered_bytes_come_in_order(rt: HostRuntime) -> Result<(), Fail> {
 
 /// What was put is written at a flush.
 fn is_flushed(rt: &impl Abort, out: &mut Buffered, sink: &mut MemorySink, expected: &[u8]) {
-    assert_eq!(rt; out.flush(sink), Ok(()));
-    assert_eq!(rt; sink.bytes(), expected);
+    is_same(rt, &out.flush(sink), &Ok(()));
+    is_same(rt, &sink.bytes(), &expected);
 }
 
 /// A sink that fails at its first call is told of where what is buffered is flushed.
 fn fails_at_its_flush(rt: &impl Abort, alloc: Global, out: &mut Buffered) -> Result<(), Fail> {
     let mut sink = MemorySink::new(alloc, 20_000, 1000, vec![in alloc; 1]?)?;
-    assert_eq!(rt; out.put(&mut sink, b"a"), Ok(()));
-    assert_eq!(rt; out.flush(&mut sink), Err(Failed));
-    assert!(rt; sink.bytes().is_empty());
+    takes_nothing(rt, out, &mut sink);
     Ok(())
+}
+
+/// A byte is buffered; then the flush fails, and nothing is written.
+fn takes_nothing(rt: &impl Abort, out: &mut Buffered, sink: &mut MemorySink) {
+    is_same(rt, &out.put(sink, b"a"), &Ok(()));
+    is_same(rt, &out.flush(sink), &Err(Failed));
+    assert!(rt; sink.bytes().is_empty());
 }

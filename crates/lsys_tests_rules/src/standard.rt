@@ -1,8 +1,11 @@
 //! The ends of std's readers and writers.
 use crate::read_lines::answers;
+use crate::same::is_same;
 use lsys_io::{Failed, Sink, Source, StdSink, StdSource, send_all};
+use std::alloc::Global;
 use std::io;
 use std::io::{Read, Write};
+use std::process::Abort;
 use std::test::Fail;
 
 /// A reader that always fails.
@@ -15,25 +18,35 @@ impl Read for Broken {
     }
 }
 
+/// So many calls of a reader of lines are answered so.
+fn is_read<S: Source>(
+    rt: &impl Abort,
+    alloc: Global,
+    source: &mut S,
+    calls: usize,
+    want: &str,
+) -> Result<(), Fail> {
+    let text = answers(alloc, source, calls)?;
+    is_same(rt, &text.as_slice(), &want.as_bytes());
+    Ok(())
+}
+
 #[test]
 fn lines_of_a_reader(rt: HostRuntime) -> Result<(), Fail> {
     let mut source = StdSource::new(b"a\nb".as_slice());
-    let text = answers(rt.alloc(), &mut source, 3)?;
-    assert_eq!(rt; text.as_slice(), b"<a><b>end ".as_slice());
+    is_read(&rt, rt.alloc(), &mut source, 3, "<a><b>end ")?;
     let mut source = StdSource::new(Broken);
-    let text = answers(rt.alloc(), &mut source, 2)?;
-    assert_eq!(rt; text.as_slice(), b"fault fault ".as_slice());
-    Ok(())
+    is_read(&rt, rt.alloc(), &mut source, 2, "fault fault ")
 }
 
 #[test]
 fn bytes_into_a_writer(rt: HostRuntime) {
     let mut written = [0u8; 4];
     let mut sink = StdSink::new(written.as_mut_slice());
-    assert_eq!(rt; send_all(&mut sink, b"abc"), Ok(()));
-    assert_eq!(rt; send_all(&mut sink, b"de"), Err(Failed));
+    is_same(&rt, &send_all(&mut sink, b"abc"), &Ok(()));
+    is_same(&rt, &send_all(&mut sink, b"de"), &Err(Failed));
     drop(sink);
-    assert_eq!(rt; written, *b"abcd");
+    is_same(&rt, &written, b"abcd");
 }
 
 /// A writer that takes two bytes a call, counts its flushes, and fails at each of them from the second on.
@@ -63,10 +76,10 @@ fn each_write_is_flushed_and_a_flush_that_fails_is_a_fault(rt: HostRuntime) -> R
     let mut sink = StdSink::new(Counting {
         flushes: &mut flushes,
     });
-    assert_eq!(rt; sink.write(b"abc"), Ok(2));
-    assert_eq!(rt; send_all(&mut sink, b"abc"), Err(Failed));
+    is_same(&rt, &sink.write(b"abc"), &Ok(2));
+    is_same(&rt, &send_all(&mut sink, b"abc"), &Err(Failed));
     drop(sink);
-    assert_eq!(rt; flushes, 2);
+    is_same(&rt, &flushes, &2);
     Ok(())
 }
 
@@ -96,11 +109,9 @@ impl Read for Recovering {
 fn a_read_that_failed_is_told_and_not_tried_again(rt: HostRuntime) -> Result<(), Fail> {
     let mut source = StdSource::new(Recovering { failed: false });
     let mut bytes = [0u8; 2];
-    assert_eq!(rt; source.read(bytes.as_mut_slice()), Err(Failed));
-    assert_eq!(rt; source.read(bytes.as_mut_slice()), Ok(1));
-    assert_eq!(rt; bytes, [b'a', 0]);
+    is_same(&rt, &source.read(bytes.as_mut_slice()), &Err(Failed));
+    is_same(&rt, &source.read(bytes.as_mut_slice()), &Ok(1));
+    is_same(&rt, &bytes, &[b'a', 0]);
     let mut source = StdSource::new(Recovering { failed: false });
-    let text = answers(rt.alloc(), &mut source, 2)?;
-    assert_eq!(rt; text.as_slice(), b"fault fault ".as_slice());
-    Ok(())
+    is_read(&rt, rt.alloc(), &mut source, 2, "fault fault ")
 }

@@ -1,3 +1,4 @@
+use crate::same::{is_same, is_same_at};
 use lsys_io::{Buffered, MemorySink};
 use lsys_module::{
     Module, Params, StringRefusal, Symbol, SymbolList, build_string, print_string, scan_string,
@@ -64,7 +65,7 @@ pub(crate) fn printed(alloc: Global, symbols: &SymbolList) -> Result<Vec<u8>, Al
 /// The string of a line is printed so, or refused so.
 fn is_answered(rt: &impl Abort, alloc: Global, line: &str, want: &str) -> Result<(), Fail> {
     let text = answer(alloc, line)?;
-    assert_eq!(rt; text.as_slice(), want.as_bytes(), "{line:?}");
+    is_same_at(rt, &text.as_slice(), &want.as_bytes(), &line);
     Ok(())
 }
 
@@ -163,10 +164,10 @@ fn a_string_has_at_most_4096_symbols(rt: HostRuntime) -> Result<(), Fail> {
         line.push_str("[A]%")?;
     }
     let text = answer(rt.alloc(), line.as_str())?;
-    assert_eq!(rt; text.len(), 4096);
+    is_same(&rt, &text.len(), &4096);
     line.push_str("B")?;
     let text = answer(rt.alloc(), line.as_str())?;
-    assert_eq!(rt; text.as_slice(), b"many 4103".as_slice());
+    is_same(&rt, &text.as_slice(), &b"many 4103".as_slice());
     Ok(())
 }
 
@@ -175,7 +176,7 @@ fn lists_keep_their_symbols(rt: HostRuntime) -> Result<(), Fail> {
     let mut symbols = SymbolList::new(rt.alloc());
     assert!(rt; symbols.is_empty());
     let params = Params::of(&[1, -2, 3]);
-    assert_eq!(rt; params.values(), [1, -2, 3].as_slice());
+    is_same(&rt, &params.values(), &[1, -2, 3].as_slice());
     let name = Name::from_mark(b'+');
     symbols.push(Symbol::Module(Module { name, params }))?;
     symbols.push(Symbol::Cut)?;
@@ -185,18 +186,18 @@ fn lists_keep_their_symbols(rt: HostRuntime) -> Result<(), Fail> {
 
 /// A list is a turn with three parameters, and a cut.
 fn is_turned_and_cut(rt: &impl Abort, alloc: Global, symbols: &SymbolList) -> Result<(), Fail> {
-    assert_eq!(rt; symbols.len(), 2);
-    assert!(rt; symbols.symbols()[1] == Symbol::Cut);
+    is_same(rt, &symbols.len(), &2);
+    assert!(rt; symbols.symbols().get(1).copied() == Some(Symbol::Cut));
     let text = printed(alloc, symbols)?;
-    assert_eq!(rt; text.as_slice(), b"+(1,-2,3)%".as_slice());
+    is_same(rt, &text.as_slice(), &b"+(1,-2,3)%".as_slice());
     Ok(())
 }
 
 #[test]
 fn refusals_are_told(rt: HostRuntime) -> Result<(), Fail> {
     let many = format!(in rt.alloc(); "{}", StringRefusal::TooMany { column: 26 })?;
-    assert_eq!(rt; many.as_str(), "column 26 begins one too many");
+    is_same(&rt, &many.as_str(), &"column 26 begins one too many");
     let memory = format!(in rt.alloc(); "{}", StringRefusal::Memory)?;
-    assert_eq!(rt; memory.as_str(), "out of memory");
+    is_same(&rt, &memory.as_str(), &"out of memory");
     Ok(())
 }

@@ -4,6 +4,7 @@ ghost use Rattle.lsys_syntax.specs.Smalls.{HaveFewParams};
 ghost use Rattle.lsys_reading.specs.Images.{images_at};
 ghost use Rattle.lsys_tests_rules.specs.Successors.{TellsBuilding, TellsKnown};
 
+use crate::same::{is_same, is_same_at};
 use crate::strings::printed;
 use lsys_bodies::{Rule, build_rule};
 use lsys_module::{SymbolList, build_string, scan_string};
@@ -121,7 +122,7 @@ fn a_cut_leaves(
 /// A text is this one.
 fn is_text(rt: &impl Abort, text: Result<Vec<u8>, AllocError>, want: &str) -> Result<(), Fail> {
     let text = text?;
-    assert_eq!(rt; text.as_slice(), want.as_bytes());
+    is_same(rt, &text.as_slice(), &want.as_bytes());
     Ok(())
 }
 
@@ -177,7 +178,7 @@ fn a_production_leaves(
 ) -> Result<(), Fail> {
     let mut level = level_of_line(alloc, line, production, place)?;
     let text = printed_when_cut(alloc, &mut level)?;
-    assert_eq!(rt; text.as_slice(), want.as_bytes(), "{line:?}");
+    is_same_at(rt, &text.as_slice(), &want.as_bytes(), &line);
     Ok(())
 }
 
@@ -223,7 +224,7 @@ fn a_cut_in_a_successor_takes_the_rest_of_the_branch(rt: HostRuntime) -> Result<
     let rule = bare_rule(alloc, "production a: A => A%[+B]")?;
     let filled = fill(alloc, &rule, &[]).map_err(|_| AllocError)?;
     let text = printed(alloc, &filled)?;
-    assert_eq!(rt; text.as_slice(), b"A%[+B]".as_slice());
+    is_same(&rt, &text.as_slice(), &b"A%[+B]".as_slice());
     Ok(())
 }
 
@@ -241,6 +242,6 @@ fn fault_rows() -> &'static [(FaultKind, &'static str)] {
 #[test]
 fn each_fault_has_its_word(rt: HostRuntime) {
     for (kind, word) in fault_rows() {
-        assert_eq!(rt; kind.word(), *word);
+        is_same(&rt, &kind.word(), word);
     }
 }

@@ -1,4 +1,5 @@
 use crate::expressions::is_told;
+use crate::same::{is_same, is_same_at};
 use lsys_text::{Name, PlaceRefusal, TextRefusal, Token, TokenKind, Word, tokens};
 use std::alloc::{AllocError, Global};
 use std::process::Abort;
@@ -50,9 +51,9 @@ fn shown_kind(
 /// A word's, a name's and a mark's bytes are these.
 fn has_its_text(rt: &impl Abort, kind: &TokenKind, text: &[u8]) {
     match kind {
-        TokenKind::Word(word) => assert_eq!(rt; word.text().as_bytes(), text),
-        TokenKind::Name(name) => assert_eq!(rt; name.text().as_bytes(), text),
-        TokenKind::Mark(byte) => assert_eq!(rt; [*byte].as_slice(), text),
+        TokenKind::Word(word) => is_same(rt, &word.text().as_bytes(), &text),
+        TokenKind::Name(name) => is_same(rt, &name.text().as_bytes(), &text),
+        TokenKind::Mark(byte) => is_same(rt, &[*byte].as_slice(), &text),
         _ => {}
     }
 }
@@ -76,7 +77,7 @@ fn name_of(kind: &TokenKind) -> &'static str {
 /// The tokens of a line are these.
 fn is_outlined(rt: &impl Abort, alloc: Global, line: &[u8], want: &str) -> Result<(), Fail> {
     let text = outline(rt, alloc, line)?;
-    assert_eq!(rt; text.as_str(), want, "{line:?}");
+    is_same_at(rt, &text.as_str(), &want, &line);
     Ok(())
 }
 
@@ -206,7 +207,7 @@ fn the_longest_line_has_as_many_tokens_as_there_are(rt: HostRuntime) -> Result<(
     let line = vec![in rt.alloc(); b'='; 65536]?;
     assert_eq!(rt; line.len(), 65536);
     let found = tokens(rt.alloc(), line.as_slice())?;
-    assert_eq!(rt; found.len(), 32768);
+    is_same(&rt, &found.len(), &32768);
     Ok(())
 }
 
@@ -215,15 +216,17 @@ fn names_and_words_keep_their_texts(rt: HostRuntime) {
     assert!(rt; Name::from_mark(b'+') == Name::from_text(b"+"));
     assert!(rt; Name::from_text(b"F") != Name::from_text(b"F_F"));
     assert!(rt; Name::from_text(b"F_a") != Name::from_text(b"F_b"));
-    assert_eq!(rt;
-        Name::from_text(b"A_bcdef6").text().as_bytes(),
-        b"A_bcdef6".as_slice()
+    is_same(
+        &rt,
+        &Name::from_text(b"A_bcdef6").text().as_bytes(),
+        &b"A_bcdef6".as_slice(),
     );
     assert!(rt; Word::from_text(b"main") == Word::from_text(b"main"));
     assert!(rt; Word::from_text(b"main") != Word::from_text(b"mail"));
-    assert_eq!(rt;
-        Word::from_text(b"a123456789_bcdef").text().as_bytes(),
-        b"a123456789_bcdef".as_slice()
+    is_same(
+        &rt,
+        &Word::from_text(b"a123456789_bcdef").text().as_bytes(),
+        &b"a123456789_bcdef".as_slice(),
     );
 }
 

@@ -161,10 +161,18 @@ pub fn mode_behind(mode: Mode, kind: TokenKind) -> Mode
 fn mode_behind_word(word: Word) -> Mode
     ensures { mode_of result ≡ after_word word }
 {
-    match word.text().as_bytes() {
-        b"axiom" | b"ignore" => Mode::Modules,
-        b"production" | b"hom" | b"ignoring" | b"consider" => Mode::UntilColon,
-        _ => Mode::Words,
+    let word = word.text();
+    let text = word.as_bytes();
+    if text == b"axiom".as_slice() || text == b"ignore".as_slice() {
+        Mode::Modules
+    } else if text == b"production".as_slice()
+        || text == b"hom".as_slice()
+        || text == b"ignoring".as_slice()
+        || text == b"consider".as_slice()
+    {
+        Mode::UntilColon
+    } else {
+        Mode::Words
     }
 }
 

@@ -1,4 +1,5 @@
-use Rattle.std.proofs.Common.{◌≡◌, ◌++◌, ◌∷◌, [], map, rules}
+use Rattle.std.proofs.Common.{arith, ◌≡◌, ◌++◌, ◌∷◌, [], map, rules}
+use Rattle.std.proofs.lemmas.Grind.{common_steps}
 use Rattle.lsys_text.specs.Tokens.{kind_row, name_of}
 use Rattle.lsys_reading.specs.Spans.{expr_at}
 use Rattle.lsys_bodies.specs.Views.{expr_in, tree_in}
@@ -22,3 +23,9 @@ loop-span-preserved c =
       spelled = built-get expr_in (expr_at ks) made c.in_ok-expression.field-0 c.args.spans.now c.loop-span.span-index _ c.loop-span-test.true c.in_ok-expression.ensures.spelled c.loop-span.invariant.spelled;
       trees = built-get tree_in (tree_at (map name_of c.args.formals.now) ks) made c.in_ok-expression.field-0 c.args.spans.now c.loop-span.span-index _ c.loop-span-test.true c.in_ok-expression.ensures.tree c.loop-span.invariant.trees;
     })
+
+pub returns-clause-spelled : goal.returns-clause-spelled
+returns-clause-spelled c = grind (arith, common_steps)
+
+pub returns-clause-trees : goal.returns-clause-trees
+returns-clause-trees c = grind (arith, common_steps)

@@ -1,4 +1,5 @@
-use Rattle.std.proofs.Common.{◌≡◌, ◌++◌, ◌∷◌, [], map, rules}
+use Rattle.std.proofs.Common.{arith, ◌≡◌, ◌++◌, ◌∷◌, [], map, rules}
+use Rattle.std.proofs.lemmas.Grind.{common_steps}
 use Rattle.lsys_text.specs.Tokens.{kind_row, name_of}
 use Rattle.lsys_reading.specs.Images.{image_at}
 use Rattle.lsys_bodies.specs.Views.{template_symbol, template_of}
@@ -22,3 +23,9 @@ loop-image-preserved c =
       spelled = built-more template_symbol (image_at ks) made c.in_ok-template.field-0 c.args.images.now c.loop-image.image-index c.image-item.result c.loop-image-test.true c.image-item.is c.in_ok-template.ensures.spelled c.loop-image.invariant.spelled;
       trees = built-more template_of (image_tree (map name_of c.args.formals.now) ks) made c.in_ok-template.field-0 c.args.images.now c.loop-image.image-index c.image-item.result c.loop-image-test.true c.image-item.is c.in_ok-template.ensures.trees c.loop-image.invariant.trees;
     })
+
+pub returns-clause-spelled : goal.returns-clause-spelled
+returns-clause-spelled c = grind (arith, common_steps)
+
+pub returns-clause-trees : goal.returns-clause-trees
+returns-clause-trees c = grind (arith, common_steps)

@@ -1,7 +1,8 @@
-use Rattle.std.proofs.Common.{◌≡◌, Some, length, slice_get, refl}
+use Rattle.std.proofs.Common.{arith, ◌≡◌, Some, length, slice_get, refl}
 use Rattle.std.specs.Prelude.{is_some}
 use Rattle.std.specs.HashMap.{get}
 use Rattle.std.proofs.lemmas.Option.{slice_get_read}
+use Rattle.std.proofs.lemmas.Grind.{common_steps, elements}
 use Rattle.lsys_forest.specs.Groves.{now_of}
 use Rattle.lsys_brood.specs.Matches.{same_child_number}
 use Rattle.lsys_brood.proofs.MatchLemmas.{got_in, left_next}
@@ -25,3 +26,9 @@ loop-kid-preserved g c =
     let m = now_of c.args.forest.now in
     let here : slice_get kids at ≡ Some kid = slice_get_read kids (length kids) at kid refl c.loop-kid-test.true c.kid-item.is in
     left_next (λ q. is_some (get same_child_number c.args.nodes.now q)) m kids at kid c.number.result c.loop-kid.gone.items c.put_left.new.gone.items here c.in_ok-put_left.ensures c.number.ensures c.loop-kid.invariant
+
+pub returns : goal.returns
+returns g c = grind (arith, elements)
+
+pub returns-in_err-put_left : goal.returns-in_err-put_left
+returns-in_err-put_left g c = grind (arith, common_steps)

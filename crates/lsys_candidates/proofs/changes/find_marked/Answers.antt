@@ -1,4 +1,5 @@
-use Rattle.std.proofs.Common.{◌⊎◌, [], refl, ap, ◌∙◌, subst, inl, inr}
+use Rattle.std.proofs.Common.{arith, ◌⊎◌, [], refl, ap, ◌∙◌, subst, inl, inr}
+use Rattle.std.proofs.lemmas.Grind.{common_steps}
 use Rattle.lsys_spec.specs.Rows.{In}
 use Rattle.lsys_candidates.specs.Finds.{IsTurned, IsBeside, IsReader}
 use Rattle.lsys_candidates.specs.Found.{LevelChanges, IsOther}
@@ -119,3 +120,21 @@ returns-clause-found g c =
     let a5 = remark (IsReader reads) c.deref-7.result.now gone s7 (c.deref-7.ensures.value ∙ ap (λ (a : LevelChanges). a.gone) c.changes.view_is) c.in_ok-find_readers-3.ensures.all in
     found_all f reads ch c.args.seats.now s2 s3 s4 s7 turned beside r3 (λ k. c.mark_all-2.ensures.seats k ∙ c.mark_all.ensures.seats k) m g1 a1 g2 a2
     (readers_of_all reads s4 s5 s6 s7 r1 r2 r3 turned beside gone g3 g4 g5) (all_readers reads s4 s5 s6 s7 r1 r2 r3 turned beside gone g4 g5 a3 a4 a5)
+
+pub returns-in_err-find_beside-clause-seats : goal.returns-in_err-find_beside-clause-seats
+returns-in_err-find_beside-clause-seats g c = grind (arith, common_steps)
+
+pub returns-clause-seats : goal.returns-clause-seats
+returns-clause-seats g c = grind (arith, common_steps)
+
+pub find_beside-requires-clause-levels : goal.find_beside-requires-clause-levels
+find_beside-requires-clause-levels g c = grind (arith, common_steps)
+
+pub returns-in_err-find_readers-clause-seats : goal.returns-in_err-find_readers-clause-seats
+returns-in_err-find_readers-clause-seats g c = grind (arith, common_steps)
+
+pub returns-in_err-find_readers-3-clause-seats : goal.returns-in_err-find_readers-3-clause-seats
+returns-in_err-find_readers-3-clause-seats g c = grind (arith, common_steps)
+
+pub returns-in_err-find_readers-2-clause-seats : goal.returns-in_err-find_readers-2-clause-seats
+returns-in_err-find_readers-2-clause-seats g c = grind (arith, common_steps)

@@ -1,4 +1,5 @@
-use Rattle.std.proofs.Common.{◌⊎◌, ap, ◌∙◌}
+use Rattle.std.proofs.Common.{arith, ◌⊎◌, ap, ◌∙◌}
+use Rattle.std.proofs.lemmas.Grind.{elements}
 use Rattle.lsys_spec.specs.Rows.{In}
 use Rattle.lsys_candidates.specs.Found.{LevelChanges}
 use Rattle.lsys_candidates.proofs.Marking.{cleared_of, none_marked, in_turn}
@@ -23,3 +24,6 @@ returns-clause-clear g c =
     let third = cleared_of (λ k. In k beside ⊎ (In k readers ⊎ ⊥)) s2 s3 c.deref-3.result.now turned c.deref-3.ensures.value c.clear-6.ensures.cleared c.clear-6.ensures.others second in
     let fourth = cleared_of (λ k. In k readers ⊎ ⊥) s3 s4 c.deref-4.result.now beside c.deref-4.ensures.value c.clear-7.ensures.cleared c.clear-7.ensures.others third in
     none_marked s5 (cleared_of (λ k. ⊥) s4 s5 c.deref-5.result.now readers c.deref-5.ensures.value c.clear-8.ensures.cleared c.clear-8.ensures.others fourth)
+
+pub returns-clause-seats : goal.returns-clause-seats
+returns-clause-seats g c = grind (arith, elements)

@@ -1,4 +1,5 @@
-use Rattle.std.proofs.Common.{rules, ◌⊎◌, ◌↔◌, ◌/◌, ℕ, length, sym, subst}
+use Rattle.std.proofs.Common.{arith, rules, ◌⊎◌, ◌↔◌, ◌/◌, ℕ, length, sym, subst}
+use Rattle.std.proofs.lemmas.Grind.{common_steps}
 use Rattle.lsys_spec.specs.Rows.{In}
 use Rattle.lsys_candidates.specs.Merges.{AreMergeable}
 use Rattle.lsys_candidates.proofs.Merging.{take_apart, rest_apart, front_level, rest_level, mergeable, parts_same}
@@ -53,3 +54,6 @@ returns-clause-same g t c =
     let same = subst (λ ys. (k : ℕ) → In k found ↔ (In k ys ⊎ In k c.deref-2.result.now)) c.deref.ensures.value c.in_ok-merge.ensures.same in
     parts_same f xs (length xs / 2) c.requires.level ys zs c.requires.apart c.in_ok-left.ensures.same c.in_ok-right.ensures.same found
     (subst (λ zs. (k : ℕ) → In k found ↔ (In k ys ⊎ In k zs)) c.deref-2.ensures.value same)
+
+pub returns-then-nodes-le1-clause-order : goal.returns-then-nodes-le1-clause-order
+returns-then-nodes-le1-clause-order g t c = grind (arith, common_steps)

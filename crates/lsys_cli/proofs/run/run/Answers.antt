@@ -1,4 +1,5 @@
-use Rattle.std.proofs.Common.{◌≡◌, ◌≢◌, rules, ◌∙◌, refl, ap, sym, subst}
+use Rattle.std.proofs.Common.{arith, ◌≡◌, ◌≢◌, rules, ◌∙◌, refl, ap, sym, subst}
+use Rattle.std.proofs.lemmas.Grind.{common_steps}
 use Rattle.lsys_io.specs.declared.lines.LineRead.TheVariants.{End}
 use Rattle.lsys_io.specs.Reading.{remaining}
 use Rattle.lsys_cli.specs.Ends.{Ends, seen}
@@ -94,3 +95,24 @@ lines-preserved g c =
       source = c.in-Ok.ensures.else_leaves_count ∙ c.lines.invariant.source;
       sink = c.in-Ok-answer_line.ensures.ok_leaves_count ∙ c.lines.invariant.sink;
     }
+
+pub returns-in-Err-TooLong-clause-read_fault_only_where_rose : goal.returns-in-Err-TooLong-clause-read_fault_only_where_rose
+returns-in-Err-TooLong-clause-read_fault_only_where_rose g c = grind (arith, common_steps)
+
+pub returns-then-eq-clause-write_fault_only_where_rose : goal.returns-then-eq-clause-write_fault_only_where_rose
+returns-then-eq-clause-write_fault_only_where_rose g c = grind (arith, common_steps)
+
+pub returns-in_default-clause-read_fault_only_where_rose : goal.returns-in_default-clause-read_fault_only_where_rose
+returns-in_default-clause-read_fault_only_where_rose g c = grind (arith, common_steps)
+
+pub returns-in_default-clause-write_fault_only_where_rose : goal.returns-in_default-clause-write_fault_only_where_rose
+returns-in_default-clause-write_fault_only_where_rose g c = grind (arith, common_steps)
+
+pub returns-in_default-clause-no_write_fault_passed_over : goal.returns-in_default-clause-no_write_fault_passed_over
+returns-in_default-clause-no_write_fault_passed_over g c = grind (arith, common_steps)
+
+pub returns-then-eq-2-clause-read_fault_only_where_rose : goal.returns-then-eq-2-clause-read_fault_only_where_rose
+returns-then-eq-2-clause-read_fault_only_where_rose g c = grind (arith, common_steps)
+
+pub returns-then-eq-2-clause-write_fault_only_where_rose : goal.returns-then-eq-2-clause-write_fault_only_where_rose
+returns-then-eq-2-clause-write_fault_only_where_rose g c = grind (arith, common_steps)

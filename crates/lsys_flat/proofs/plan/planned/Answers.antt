@@ -1,4 +1,5 @@
 use Rattle.std.proofs.Common.{map, arith}
+use Rattle.std.proofs.lemmas.Grind.{common_steps}
 use Rattle.lsys_flat.specs.Answers.{lists_of}
 use Rattle.lsys_flat.specs.Lines.{line_of}
 use Rattle.lsys_flat.proofs.DraftingSteps.{few_filled, is_planned}
@@ -14,3 +15,12 @@ returns-in-Err-clause-few_asked g c =
     let few = c.in-Err.ensures.few_asked c.args.limit c.in_ok-draft.ensures in
     let most = few_filled c.complete.new.self.fresh in
     record { from = omega (arith, c.in-Err.ensures.asked); to = omega (arith, c.in-Err.ensures.asked, few, most) }
+
+pub complete-requires : goal.complete-requires
+complete-requires g c = grind (arith, common_steps)
+
+pub returns-in-Ok-clause-new : goal.returns-in-Ok-clause-new
+returns-in-Ok-clause-new g c = grind (arith, common_steps)
+
+pub returns-in-Ok-clause-asked : goal.returns-in-Ok-clause-asked
+returns-in-Ok-clause-asked g c = grind (arith, common_steps)

@@ -1,5 +1,6 @@
 use Rattle.std.proofs.Common.{◌≡◌, ◌<◌, ◌∙◌, arith, rules, length, sym}
 use Rattle.std.proofs.lemmas.List.{length-map}
+use Rattle.std.proofs.lemmas.Grind.{common_steps}
 use Rattle.lsys_flat.specs.Answers.{lists_of}
 use Rattle.lsys_flat.proofs.Moved.{goes_on, past_least, all_gone_over, all_left}
 use Rattle.lsys_flat.proofs.taking.move_all.Goals as goal
@@ -23,3 +24,6 @@ pub returns-clause-left : goal.returns-clause-left
 returns-clause-left g c =
     all_left (lists_of c.args.olds.now) (lists_of c.args.fresh.now) (lists_of c.args.taken.now) c.loop-level.level (lists_of c.loop-level.olds) (lists_of c.loop-level.fresh) c.loop-level.invariant
     c.requires.levels c.requires.places (past_least c.args.olds.now c.args.fresh.now _ _ c.min-level-end.ensures c.loop-level-test.false)
+
+pub bounds-taken-level : goal.bounds-taken-level
+bounds-taken-level g c = grind (arith, common_steps)

@@ -1,4 +1,5 @@
-use Rattle.std.proofs.Common.{ℕ, ℤ, refl, sym, ap, subst}
+use Rattle.std.proofs.Common.{arith, ℕ, ℤ, refl, sym, ap, subst}
+use Rattle.std.proofs.lemmas.Grind.{common_steps}
 use Rattle.lsys_forest.specs.Shelves.{Hoard, shelf_of, IsOwner}
 use Rattle.lsys_forest.specs.Slots.{SlotTable}
 use Rattle.lsys_forest.specs.Stocks.{Clears}
@@ -46,3 +47,15 @@ returns-in-Some-clause-no_kids g c =
     let new : Hoard ℕ = record h { pool = c.free-in-Some.new.self.pool } in
     let done = clear_done h new t.kid_runs u.kid_runs c.in-Some.entry.kids c.args.node c.in-Some.ensures.was.kids (ap (λ (x : SlotTable g.row.A.Denot). x.kid_runs) c.remove.ensures.gone) c.free-in-Some.ensures.freed refl refl c.free-in-Some.ensures.spare refl c.requires.kids in
     subst (λ (x : Hoard ℕ). Clears c.args.node (shelf_of h t.kid_runs) (shelf_of x u.kid_runs)) (sym c.free-in-Some.ensures.kept) done.1
+
+pub returns-in_default-clause-params : goal.returns-in_default-clause-params
+returns-in_default-clause-params g c = grind (arith, common_steps)
+
+pub returns-in_default-clause-kids : goal.returns-in_default-clause-kids
+returns-in_default-clause-kids g c = grind (arith, common_steps)
+
+pub returns-in_default-clause-no_params : goal.returns-in_default-clause-no_params
+returns-in_default-clause-no_params g c = grind (arith, common_steps)
+
+pub returns-in_default-clause-no_kids : goal.returns-in_default-clause-no_kids
+returns-in_default-clause-no_kids g c = grind (arith, common_steps)

@@ -2,6 +2,7 @@ use Rattle.std.proofs.Common.{◌≢◌, ◌∷◌, List, None, sym, ap, ◌∙�
 use Rattle.std.specs.Prelude.{IsSome}
 use Rattle.std.proofs.lemmas.Bool.{cases_eq}
 use Rattle.std.proofs.lemmas.Option.{none-some}
+use Rattle.std.proofs.lemmas.Grind.{common_steps}
 use Rattle.lsys_forest.proofs.StockLemmas.{put_same, put_other}
 use Rattle.std.specs.Option.{option_and_then}
 use Rattle.lsys_forest.specs.Nodes.{Nodes, with_node}
@@ -69,3 +70,6 @@ returns-then-is_loose-clause-freed g c =
     subst (λ (f : Nodes g.row.A.Denot). IsStep (answers (nodes_of t) (changes_of t)) (answers f (changes_of u)) s.0.answer) (sym done.0.nodes)
     (subst (λ (cs : List (Change g.row.A.Denot)). IsStep (answers (nodes_of t) (changes_of t)) (answers (with_node (nodes_of t) k None) cs) s.0.answer) (sym done.0.noted) (remove_step (nodes_of t) k s.0 (changes_of t) s.1)) in
     step_follows g.A.Kept.run_at g.A.Kept.Holds (answers (nodes_of t) (changes_of t)) (answers (nodes_of u) (changes_of u)) s.0.answer c.args.store.now c.remove.new.store step c.requires.made done.1
+
+pub remove-requires-clause-place : goal.remove-requires-clause-place
+remove-requires-clause-place g c = grind (arith, common_steps)

@@ -1,5 +1,6 @@
-use Rattle.std.proofs.Common.{◌≡◌, sym, subst, refl, Some, length, slice_get}
+use Rattle.std.proofs.Common.{arith, ◌≡◌, sym, subst, refl, Some, length, slice_get}
 use Rattle.std.proofs.lemmas.Option.{slice_get_read}
+use Rattle.std.proofs.lemmas.Grind.{common_steps, elements}
 use Rattle.lsys_forest.specs.Groves.{IsLive}
 use Rattle.lsys_forest.proofs.WalkLemmas.{get_In}
 use Rattle.lsys_front.proofs.ends.add_answered.Goals as goal
@@ -11,3 +12,9 @@ keeps_answer-requires g c =
     let x = c.node-item.result in
     let here : slice_get xs i ≡ Some x = slice_get_read xs (length xs) i x refl c.loop-node-test.true c.node-item.is in
     subst (λ k. IsLive c.args.forest.now k) (sym c.node.view_is) (c.requires.lives x (get_In xs i x here))
+
+pub returns : goal.returns
+returns g c = grind (arith, elements)
+
+pub loop-node-preserved : goal.loop-node-preserved
+loop-node-preserved g c = grind (arith, common_steps)

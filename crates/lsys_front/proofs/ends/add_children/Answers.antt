@@ -1,5 +1,6 @@
-use Rattle.std.proofs.Common.{◌≡◌, ap, ◌∙◌, sym, refl, Some, length, slice_get, append-nil}
+use Rattle.std.proofs.Common.{arith, ◌≡◌, ap, ◌∙◌, sym, refl, Some, length, slice_get, append-nil}
 use Rattle.std.proofs.lemmas.Option.{slice_get_read}
+use Rattle.std.proofs.lemmas.Grind.{elements, common_steps}
 use Rattle.lsys_forest.specs.Groves.{now_of}
 use Rattle.lsys_forest.specs.Rows.{kids_in}
 use Rattle.lsys_forest.proofs.SoundLemmas.{some_of}
@@ -34,3 +35,15 @@ loop-node-preserved g c =
           (extended c.loop-node.below.items c.children.result.now (kids_in (m x)) c.extend_from_slice.new.self.items c.in_ok-extend_from_slice.ensures.items (sym kids));
       lives = kids_live c.args.forest.now xs i x here c.children.result.now c.children.ensures.kids c.children.ensures.under lives c.loop-node.invariant.lives;
     }
+
+pub returns-clause-below : goal.returns-clause-below
+returns-clause-below g c = grind (arith, common_steps)
+
+pub returns-clause-lives : goal.returns-clause-lives
+returns-clause-lives g c = grind (arith, elements)
+
+pub returns-in_err-extend_from_slice-clause-lives : goal.returns-in_err-extend_from_slice-clause-lives
+returns-in_err-extend_from_slice-clause-lives g c = grind (arith, common_steps)
+
+pub returns-in_err-extend_from_slice-clause-below : goal.returns-in_err-extend_from_slice-clause-below
+returns-in_err-extend_from_slice-clause-below g c = grind (arith, common_steps)

@@ -1,4 +1,5 @@
 use Rattle.std.proofs.Common.{arith}
+use Rattle.std.proofs.lemmas.Grind.{elements}
 use Rattle.lsys_forest.specs.Groves.{now_of, spare_kids}
 use Rattle.lsys_forest.proofs.SoundLemmas.{some_of}
 use Rattle.lsys_forest.proofs.ShelfLemmas.{room_nil}
@@ -20,3 +21,9 @@ returns-in_ok-extend_from_slice-clause-loses g c =
 
 pub returns-else-not-is_empty-clause-loses : goal.returns-else-not-is_empty-clause-loses
 returns-else-not-is_empty-clause-loses g c = loses_none c.args.forest.now
+
+pub returns-else-not-is_empty-clause-taken : goal.returns-else-not-is_empty-clause-taken
+returns-else-not-is_empty-clause-taken g c = grind (arith, elements)
+
+pub returns-else-not-is_empty-clause-below : goal.returns-else-not-is_empty-clause-below
+returns-else-not-is_empty-clause-below g c = grind (arith, elements)

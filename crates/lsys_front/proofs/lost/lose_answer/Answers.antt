@@ -1,4 +1,5 @@
 use Rattle.std.proofs.Common.{◌≡◌, ℕ, ◌∷◌, ◌++◌, [], subst, arith}
+use Rattle.std.proofs.lemmas.Grind.{elements}
 use Rattle.lsys_forest.specs.Groves.{now_of}
 use Rattle.lsys_forest.proofs.SoundLemmas.{some_of}
 use Rattle.lsys_candidates.proofs.Gathering.{not_both}
@@ -26,3 +27,9 @@ returns-clause-only g c =
     let n = some_of (now_of c.args.forest.now c.args.node) c.requires.lives in
     loses_answer c.args.forest.now c.set_answer.new.self c.args.node n.0 n.1 (c.set_answer.ensures.set n.0 n.1) (c.set_answer.ensures.noted n.0 n.1)
     (let l = c.set_answer.ensures.spends.live in omega (arith, l))
+
+pub returns-clause-places : goal.returns-clause-places
+returns-clause-places g c = grind (arith, elements)
+
+pub returns-clause-tags : goal.returns-clause-tags
+returns-clause-tags g c = grind (arith, elements)

@@ -1,5 +1,6 @@
-use Rattle.std.proofs.Common.{◌≡◌, Some, length, slice_get, refl, sym, ap, ◌∙◌, inl, inr}
+use Rattle.std.proofs.Common.{arith, ◌≡◌, Some, length, slice_get, refl, sym, ap, ◌∙◌, inl, inr}
 use Rattle.std.proofs.lemmas.Option.{slice_get_read}
+use Rattle.std.proofs.lemmas.Grind.{common_steps}
 use Rattle.lsys_change.specs.Children.{is_open}
 use Rattle.lsys_forest.specs.Groves.{now_of}
 use Rattle.lsys_forest.proofs.WalkLemmas.{get_In}
@@ -36,3 +37,6 @@ loop-node-preserved g c =
 
 pub returns-clause-none : goal.returns-clause-none
 returns-clause-none g c = λ no k i. c.loop-node.invariant k (in_all_taken c.args.nodes.now c.loop-node.node-index k c.loop-node-test.false i)
+
+pub returns-then-is_open-clause-none : goal.returns-then-is_open-clause-none
+returns-then-is_open-clause-none g c = grind (arith, common_steps)

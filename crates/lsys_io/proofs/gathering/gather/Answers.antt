@@ -1,4 +1,5 @@
-use Rattle.std.proofs.Common.{rules, sym, ◌∙◌, true≢false}
+use Rattle.std.proofs.Common.{arith, rules, sym, ◌∙◌, true≢false}
+use Rattle.std.proofs.lemmas.Grind.{common_steps}
 use Rattle.lsys_io.proofs.SoFar.{so_far_read, so_far_more, so_far_whole, so_far_past, no_lf_taken, has_lf-more}
 use Rattle.lsys_io.proofs.gathering.gather.Goals as goal
 
@@ -38,3 +39,9 @@ bytes-preserved g c =
       capacity = search rules;
       before = search rules;
     }
+
+pub returns-in-Ok-false-clause-gathers : goal.returns-in-Ok-false-clause-gathers
+returns-in-Ok-false-clause-gathers g c = grind (arith, common_steps)
+
+pub returns-in-Some-clause-no_read_while_held : goal.returns-in-Some-clause-no_read_while_held
+returns-in-Some-clause-no_read_while_held g c = grind (arith, common_steps)

@@ -1,5 +1,6 @@
 use Rattle.std.proofs.Common.{◌≡◌, ◌++◌, ◌∷◌, [], rules, refl, arith}
 use Rattle.std.proofs.lemmas.Result.{err_from_is_err_and}
+use Rattle.std.proofs.lemmas.Grind.{common_steps}
 use Rattle.lsys_reading.specs.Tokens.{kinds_in}
 use Rattle.lsys_reading.specs.declared.glyph.Separator.TheVariants.{Comma, Close}
 use Rattle.lsys_reading.proofs.TokenPlaces.{length-kinds}
@@ -36,3 +37,12 @@ returns-then-eq-clause-place c =
     let w = formal-within ks c.formals.end c.in_ok-read.read c.in_ok-read.ensures in
     let a = c.formals.invariant.after in
     (omega (arith, a, w), omega (arith, w, length-kinds c.args.line.now.tokens.items))
+
+pub formals-init : goal.formals-init
+formals-init c = grind (arith, common_steps)
+
+pub formal-requires : goal.formal-requires
+formal-requires c = grind (arith, common_steps)
+
+pub overflow_add-end : goal.overflow_add-end
+overflow_add-end c = grind (arith, common_steps)

@@ -1,5 +1,6 @@
-use Rattle.std.proofs.Common.{sym, ◌∙◌, refl, subst}
+use Rattle.std.proofs.Common.{arith, sym, ◌∙◌, refl, subst}
 use Rattle.std.proofs.lemmas.Result.{err_from_is_err_and}
+use Rattle.std.proofs.lemmas.Grind.{common_steps}
 use Rattle.lsys_reading.specs.Tokens.{kinds_in}
 use Rattle.lsys_reading.specs.Heads.{IsContext}
 use Rattle.lsys_reading.proofs.HeadReads.{right-err, right-read, right-refused}
@@ -24,3 +25,9 @@ returns-clause-read c =
     let a = c.in_ok-read.read in
     right-read c.args.form ks c.args.at c.peek.result c.peek.ensures (sym c.takes_right.ensures ∙ c.if-not-takes_right.false) a c.in_ok-read.ensures.read c.in_ok-read.ensures.branches
     (subst (λ b. IsContext b a.symbols.items a.branches) c.if-not-is_context.false c.is_context.ensures) (record { right = a.symbols; end = a.end }) refl refl
+
+pub returns-then-not-takes_right-clause-read : goal.returns-then-not-takes_right-clause-read
+returns-then-not-takes_right-clause-read c = grind (arith, common_steps)
+
+pub patterns-requires : goal.patterns-requires
+patterns-requires c = grind (arith, common_steps)

@@ -1,5 +1,6 @@
 use Rattle.std.proofs.Common.{◌≡◌, ◌++◌, ◌∷◌, [], rules, refl, arith}
 use Rattle.std.proofs.lemmas.Result.{err_from_is_err_and}
+use Rattle.std.proofs.lemmas.Grind.{common_steps}
 use Rattle.lsys_reading.specs.Tokens.{kinds_in}
 use Rattle.lsys_reading.specs.declared.glyph.Separator.TheVariants.{Comma, Close}
 use Rattle.lsys_reading.proofs.TokenPlaces.{length-kinds}
@@ -38,3 +39,6 @@ params-preserved c =
     let comma : c.in_ok-read.read.separator ≡ Comma = search rules in
     let pushed : c.push.new.self.items ≡ c.params.params.items ++ c.in_ok-read.read.span ∷ [] = search rules in
     rw pushed (params-more ks c.args.at c.params.end c.params.params.items c.in_ok-read.read c.params.invariant c.in_ok-read.ensures.read comma c.in_ok-read.ensures.span w.0 (omega (arith, w.1, length-kinds c.args.line.now.tokens.items)))
+
+pub param-requires : goal.param-requires
+param-requires c = grind (arith, common_steps)

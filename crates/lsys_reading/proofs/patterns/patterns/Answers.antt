@@ -1,6 +1,7 @@
 use Rattle.std.proofs.Common.{◌==◌, ◌≡◌, ◌≤◌, ◌<◌, Ok, Some, length, ◌++◌, ◌∷◌, [], rules, arith, subst}
 use Rattle.std.proofs.lemmas.Result.{err_from_is_err_and}
 use Rattle.std.specs.Prelude.{IfSome}
+use Rattle.std.proofs.lemmas.Grind.{common_steps}
 use Rattle.lsys_reading.specs.Tokens.{kinds_in, size}
 use Rattle.lsys_reading.specs.declared.patterns.Standing.{Standing}
 use Rattle.lsys_reading.specs.Patterns.{IsSymbolRead}
@@ -28,3 +29,6 @@ symbols-preserved c =
     let pushed : c.push.new.self.items ≡ xs ++ c.in-Some.read.symbol ∷ [] = search rules in
     rw (pushed, c.branches_behind-branches.ensures) (patterns-more c.args.section ks c.args.at c.symbols.end xs c.symbols.branches c.is_empty.result c.symbols.invariant
     (first-symbol c.is_empty.result xs none) c.in-Some.read read place.0 (omega (arith, place.1, length-kinds c.args.line.now.tokens.items)))
+
+pub returns-in_default-clause-place : goal.returns-in_default-clause-place
+returns-in_default-clause-place c = grind (arith, common_steps)

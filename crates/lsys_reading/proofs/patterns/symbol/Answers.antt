@@ -1,5 +1,6 @@
 use Rattle.std.proofs.Common.{Some, ap, sym, ◌∙◌, arith}
 use Rattle.std.proofs.lemmas.Result.{err_from_is_err_and}
+use Rattle.std.proofs.lemmas.Grind.{common_steps}
 use Rattle.lsys_reading.specs.Tokens.{kinds_in}
 use Rattle.lsys_reading.proofs.TokenPlaces.{length-kinds}
 use Rattle.lsys_reading.proofs.PatternLoops.{symbol-none, symbol-ok, symbol-err}
@@ -20,3 +21,12 @@ pub returns-in_ok-pattern-in-Name-clause-read : goal.returns-in_ok-pattern-in-Na
 returns-in_ok-pattern-in-Name-clause-read c =
     let ks = kinds_in c.args.line.now in
     symbol-ok c.args.standing ks c.args.at c.peek.result c.peek.ensures c.in-Name.name c.in_ok-pattern-in-Name.field-0 (ap (λ o. Some o) (sym c.in-Name.is) ∙ c.in-Some.ensures) c.in_ok-pattern-in-Name.ensures.read
+
+pub module-requires : goal.module-requires
+module-requires c = grind (arith, common_steps)
+
+pub returns-in-Push-clause-place : goal.returns-in-Push-clause-place
+returns-in-Push-clause-place c = grind (arith, common_steps)
+
+pub returns-in-Pop-clause-place : goal.returns-in-Pop-clause-place
+returns-in-Pop-clause-place c = grind (arith, common_steps)

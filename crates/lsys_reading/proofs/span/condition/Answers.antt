@@ -1,5 +1,6 @@
-use Rattle.std.proofs.Common.{sym, ◌∙◌}
+use Rattle.std.proofs.Common.{arith, sym, ◌∙◌}
 use Rattle.std.proofs.lemmas.Result.{err_from_is_err_and}
+use Rattle.std.proofs.lemmas.Grind.{common_steps}
 use Rattle.lsys_reading.specs.Tokens.{kinds_in}
 use Rattle.lsys_reading.proofs.SpanLaws.{condition-ok, condition-err}
 use Rattle.lsys_reading.proofs.span.condition.Goals as goal
@@ -12,3 +13,9 @@ returns-in_err-span-clause-read c =
 pub returns-clause-read : goal.returns-clause-read
 returns-clause-read c =
     condition-ok (kinds_in c.args.line.now) c.args.at c.peek.result c.peek.ensures (sym c.is_colon.ensures ∙ c.if-not-is_colon.false) c.in_ok-span.span c.in_ok-span.ensures.read
+
+pub returns-then-not-is_colon-clause-read : goal.returns-then-not-is_colon-clause-read
+returns-then-not-is_colon-clause-read c = grind (arith, common_steps)
+
+pub expression-requires : goal.expression-requires
+expression-requires c = grind (arith, common_steps)

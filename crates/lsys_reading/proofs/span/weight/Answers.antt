@@ -1,5 +1,6 @@
-use Rattle.std.proofs.Common.{sym, ◌∙◌}
+use Rattle.std.proofs.Common.{arith, sym, ◌∙◌}
 use Rattle.std.proofs.lemmas.Result.{err_from_is_err_and}
+use Rattle.std.proofs.lemmas.Grind.{common_steps}
 use Rattle.lsys_reading.specs.Tokens.{kinds_in}
 use Rattle.lsys_reading.proofs.SpanLaws.{weight-ok, weight-err}
 use Rattle.lsys_reading.proofs.span.weight.Goals as goal
@@ -12,3 +13,6 @@ returns-in_err-span-clause-read c =
 pub returns-clause-read : goal.returns-clause-read
 returns-clause-read c =
     weight-ok c.args.form (kinds_in c.args.line.now) c.args.at c.peek.result c.peek.ensures (sym c.takes_weight.ensures ∙ c.if-not-takes_weight.false) c.in_ok-span.span c.in_ok-span.ensures.read
+
+pub expression-requires : goal.expression-requires
+expression-requires c = grind (arith, common_steps)

@@ -1,5 +1,6 @@
-use Rattle.std.proofs.Common.{◌≡◌, subst, sym}
+use Rattle.std.proofs.Common.{arith, ◌≡◌, subst, sym}
 use Rattle.std.specs.Prelude.{IfOk}
+use Rattle.std.proofs.lemmas.Grind.{common_steps}
 use Rattle.lsys_spec.specs.Edits.{changed}
 use Rattle.lsys_reading.specs.declared.parts.Parts.TheVariants.{Production, Homomorphism}
 use Rattle.lsys_rules.specs.Systems.{system_of}
@@ -27,3 +28,9 @@ returns-in-Homomorphism c =
     let s = system_of c.args.parts.now in
     let told = parted_command c.args.tokens.now c.args.edit.now (Homomorphism c.in-Homomorphism.labeled) c.requires.parted c.in-Homomorphism.is in
     subst (λ d. IfOk c.with_hom_rule.result (λ next. system_of next ≡ changed s d)) (sym told) c.with_hom_rule.ensures
+
+pub with_axiom-requires-clause-place : goal.with_axiom-requires-clause-place
+with_axiom-requires-clause-place c = grind (arith, common_steps)
+
+pub with_axiom-requires-clause-few : goal.with_axiom-requires-clause-few
+with_axiom-requires-clause-few c = grind (arith, common_steps)

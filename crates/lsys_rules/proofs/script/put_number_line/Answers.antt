@@ -1,4 +1,5 @@
-use Rattle.std.proofs.Common.{◌∷◌, []}
+use Rattle.std.proofs.Common.{arith, ◌∷◌, []}
+use Rattle.std.proofs.lemmas.Grind.{common_steps}
 use Rattle.lsys_io.proofs.Puts.{puts_then, puts_failed}
 use Rattle.lsys_rules.proofs.script.put_number_line.Goals as goal
 
@@ -7,3 +8,6 @@ returns-in_err-put_decimal g c = puts_then c.in_ok-put.ensures (puts_failed (10 
 
 pub returns : goal.returns
 returns g c = puts_then c.in_ok-put.ensures (puts_then c.in_ok-put_decimal.ensures (c.put-2.ensures))
+
+pub returns-in_err-put : goal.returns-in_err-put
+returns-in_err-put g c = grind (arith, common_steps)

@@ -5,6 +5,7 @@ use Rattle.std.specs.List.{prefix_len}
 use Rattle.std.proofs.lemmas.List.{map-append}
 use Rattle.std.proofs.Common.{ℕ, ◌+◌, length, length-drop, ◌≤◌}
 use Rattle.std.proofs.lemmas.List.Elements.{All-push}
+use Rattle.std.proofs.lemmas.Grind.{common_steps}
 use Rattle.lsys_syntax.specs.Tokens.{is_blank}
 use Rattle.lsys_text.specs.Tokens.{token_of, kind_of, HasMarkByte, LiesInLine}
 use Rattle.lsys_text.specs.Scans.{mode_of, lexeme_of, first_token}
@@ -50,3 +51,6 @@ returns-in_ok-push_lexeme-in-Some-clause-places c =
     let end : start + 1 + c.in-Some.lexeme.more ≤ length c.args.line.now =
     omega (arith, lexeme.within, ap length (part-from start c.args.line.now), length-drop start c.args.line.now) in
     subst (All (LiesInLine (length c.args.line.now))) (sym told.added) (All-push (LiesInLine (length c.args.line.now)) c.args.found.now.items _ c.requires.places (omega arith, end))
+
+pub returns-in_ok-push_lexeme-in-Some-clause-one : goal.returns-in_ok-push_lexeme-in-Some-clause-one
+returns-in_ok-push_lexeme-in-Some-clause-one c = grind (arith, common_steps)

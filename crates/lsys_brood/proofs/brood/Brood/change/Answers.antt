@@ -1,4 +1,5 @@
-use Rattle.std.proofs.Common.{ap, ◌∙◌}
+use Rattle.std.proofs.Common.{arith, ap, ◌∙◌}
+use Rattle.std.proofs.lemmas.Grind.{elements}
 use Rattle.lsys_brood.specs.Matches.{Matched}
 use Rattle.lsys_brood.proofs.brood.Brood.change.Goals as goal
 
@@ -9,3 +10,6 @@ renew_all-requires-clause-matched g c = λ n is.
       found = c.deref.ensures.value ∙ ap (λ (x : Matched). x.found) matched;
       left = c.deref-2.ensures.value ∙ ap (λ (x : Matched). x.gone) matched;
     }
+
+pub renew_all-requires-clause-sound : goal.renew_all-requires-clause-sound
+renew_all-requires-clause-sound g c = grind (arith, elements)

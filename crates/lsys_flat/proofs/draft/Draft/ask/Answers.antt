@@ -1,5 +1,6 @@
 use Rattle.std.proofs.Common.{◌≡◌, length, set, ap, ◌∙◌, subst, arith}
 use Rattle.std.specs.Prelude.{OnOk}
+use Rattle.std.proofs.lemmas.Grind.{common_steps}
 use Rattle.lsys_level.specs.Spots.{spots_at}
 use Rattle.lsys_flat.specs.Rounds.{Rounded}
 use Rattle.lsys_flat.specs.Slots.{filled_slots}
@@ -29,3 +30,9 @@ returns g c =
     (map_set (λ level. level.items) c.self.inside.taken.items c.args.level c.finish-found.result.taken ∙ ap (set (lists_of c.self.inside.taken.items) c.args.level) c.finish-found.ensures.taken)
     (c.count_filled.ensures ∙ ap filled_slots (c.as_slice.ensures.value ∙ c.finish-found.ensures.fresh)) (c.from.ensures ∙ c.finish-found.ensures.questions))
     c.ask_level-done.ensures.round c.ask_level-done.ensures.whole c.finish-found.ensures.next (subst (λ n. OnOk c.ask_level-done.result (c.ask_level-done.new.self.next.grown.room ≡ n)) (ap (λ (r : Rounded). r.next.grown.room) c.new-round.ensures) c.ask_level-done.ensures.room) c.ask_level-done.ensures.new c.ask_level-done.ensures.each c.ask_level-done.ensures.asked
+
+pub index_mut-requires : goal.index_mut-requires
+index_mut-requires g c = grind (arith, common_steps)
+
+pub index_mut-requires-2 : goal.index_mut-requires-2
+index_mut-requires-2 g c = grind (arith, common_steps)

@@ -1,4 +1,5 @@
-use Rattle.std.proofs.Common.{rules, ◌≡◌, ◌+◌, Err, map, refl, sym, subst}
+use Rattle.std.proofs.Common.{arith, rules, ◌≡◌, ◌+◌, Err, map, refl, sym, subst}
+use Rattle.std.proofs.lemmas.Grind.{common_steps}
 use Rattle.lsys_level.specs.Spots.{spots_at}
 use Rattle.lsys_flat.specs.Answers.{at_level, lists_of}
 use Rattle.lsys_flat.specs.Lines.{line_of}
@@ -90,3 +91,9 @@ returns-clause-few g c = λ limit xs begin before h.
     (few_is c.args.system.now limit (lists_of c.args.olds.now.answers.now) c.args.store.now c.ask-done.new.store c.args.visited.now c.ask-done.new.visited c.args.asked.now c.ask-done.new.asked c.args.level c.args.self.now c.ask-done.new.self c.ask-done.result.0 c.ask-done.result.1
     (asked_of c.args.system.now c.args.level (at_level (lists_of c.args.olds.now.answers.now) c.args.level) c.args.store.now c.ask-done.new.store c.args.visited.now c.ask-done.new.visited c.args.asked.now c.ask-done.new.asked c.args.self.now c.open.new.self c.ask-done.new.self c.ask-done.result.0 c.ask-done.result.1 c.in_ok-open.ensures.opened c.ask-done.ensures)
     xs (map line_of c.args.olds.now.ancestries.now) begin before h c.requires.1.found.each_fresh)
+
+pub ask-done-requires-clause-fresh : goal.ask-done-requires-clause-fresh
+ask-done-requires-clause-fresh g c = grind (arith, common_steps)
+
+pub ask-done-requires-clause-taken : goal.ask-done-requires-clause-taken
+ask-done-requires-clause-taken g c = grind (arith, common_steps)

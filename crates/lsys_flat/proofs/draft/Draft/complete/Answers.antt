@@ -1,4 +1,5 @@
 use Rattle.std.proofs.Common.{rules, ◌≡◌, ◌*◌, Err, map, sym, subst, arith}
+use Rattle.std.proofs.lemmas.Grind.{common_steps}
 use Rattle.lsys_flat.specs.Answers.{lists_of}
 use Rattle.lsys_match.specs.Derivations.{Rises, most_read, IsLevelRefusal}
 use Rattle.lsys_flat.specs.Lines.{line_of}
@@ -66,3 +67,21 @@ returns-clause-few_asked g c = λ limit e.
     let same : limit ≡ q.limit = same_limit q.limit limit lines lines c.args.self.now q.empty e in
     let few = few_before c.args.system.now q.limit q.xs lines (lists_of c.args.olds.now.answers.now) c.args.store.now c.loop-level.store c.args.visited.now c.loop-level.visited c.loop-level.level c.loop-level.self (c.loop-level.invariant.drafts q.limit q.xs q.empty q.olds) in
     omega (arith, same, few)
+
+pub returns-in_err-begin-clause-new : goal.returns-in_err-begin-clause-new
+returns-in_err-begin-clause-new g c = grind (arith, common_steps)
+
+pub returns-in_err-ask_level-clause-completed : goal.returns-in_err-ask_level-clause-completed
+returns-in_err-ask_level-clause-completed g c = grind (arith, common_steps)
+
+pub returns-in_err-ask_level-clause-found : goal.returns-in_err-ask_level-clause-found
+returns-in_err-ask_level-clause-found g c = grind (arith, common_steps)
+
+pub returns-in_err-ask_level-clause-well : goal.returns-in_err-ask_level-clause-well
+returns-in_err-ask_level-clause-well g c = grind (arith, common_steps)
+
+pub returns-in_err-ask_level-clause-new : goal.returns-in_err-ask_level-clause-new
+returns-in_err-ask_level-clause-new g c = grind (arith, common_steps)
+
+pub loop-level-preserved : goal.loop-level-preserved
+loop-level-preserved g c = grind (arith, common_steps)

@@ -1,4 +1,5 @@
-use Rattle.std.proofs.Common.{◌≡◌, List, map, sym, ap, ◌∙◌, subst}
+use Rattle.std.proofs.Common.{arith, ◌≡◌, List, map, sym, ap, ◌∙◌, subst}
+use Rattle.std.proofs.lemmas.Grind.{common_steps}
 use Rattle.lsys_spec.specs.Levels as L
 use Rattle.lsys_spec.specs.Questions.{questions, least_visits}
 use Rattle.lsys_match.specs.Derivations.{IsDerived, AreMeant, IsCount, KeepsTags, Rises}
@@ -63,3 +64,6 @@ pub returns-clause-read : goal.returns-clause-read
 returns-clause-read g c =
     subst (λ d. (x y : List (List L.LevelSymbol)) → AreMeant d.system c.args.system d.limit x y → Rises (least_visits (questions d.system x) (questions c.args.system y)) (entries_of (questions c.args.system y)) c.args.visited.now c.planned.new.visited) c.self.view_is
     (read_after _ _ _ _ _ _ _ _ _ _ _ _ _ _ _ (edit_is g (goal.at.returns-clause-read g c).After-as_slice-3))
+
+pub returns-in_err-plan-clause-limit : goal.returns-in_err-plan-clause-limit
+returns-in_err-plan-clause-limit g c = grind (arith, common_steps)

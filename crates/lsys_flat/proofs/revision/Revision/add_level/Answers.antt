@@ -1,6 +1,7 @@
 use Rattle.std.proofs.Common.{rules, ◌≡◌, ◌+◌, ◌++◌, ◌∷◌, ◌<◌, ◌≤◌, ◌^◌, [], length, map, sym, ap, ◌∙◌, subst, arith}
 use Rattle.std.specs.Prelude.{slice_get}
 use Rattle.std.proofs.lemmas.List.{length-map, map-append}
+use Rattle.std.proofs.lemmas.Grind.{common_steps}
 use Rattle.lsys_flat.specs.Origins.{AreChildren}
 use Rattle.lsys_flat.specs.Supplies.{tags_held, AreNamed}
 use Rattle.lsys_level.specs.Tags.{HasOwnTags}
@@ -102,3 +103,9 @@ returns-clause-added c seed xs ys y so_far next =
     named c.in_ok-tags.ensures.used few in
     subst (IsRevised seed xs (ys ++ y ∷ []))
     (λ i. record { old_lines = map line_of c.self.inside.olds.now; view = sym view i; lines = sym lines i; supply = c.name_level.new.self; mates = c.in_ok-mates.mates.items }) all
+
+pub returns-in_err-copy_of-clause-olds : goal.returns-in_err-copy_of-clause-olds
+returns-in_err-copy_of-clause-olds c = grind (arith, common_steps)
+
+pub returns-in_err-push-clause-above : goal.returns-in_err-push-clause-above
+returns-in_err-push-clause-above c = grind (arith, common_steps)

@@ -1,4 +1,5 @@
 use Rattle.std.proofs.Common.{rules, ◌≡◌, ◌+◌, ℕ, List, Ok, Err, OnErr, length, refl, sym, ap, ◌∙◌, subst, arith}
+use Rattle.std.proofs.lemmas.Grind.{common_steps}
 use Rattle.lsys_flat.specs.Slots.{filled_slots}
 use Rattle.lsys_level.specs.Spots.{spots_at}
 use Rattle.lsys_rewrite.specs.declared.refusal.DeriveRefusal.{DeriveRefusal}
@@ -71,3 +72,12 @@ returns-clause-round g c = λ naming x is.
     let n : length x ≡ length row = row_length naming c.args.beside.now.system.now.seed row x is in
     let at : c.loop-place.place ≡ length x = omega (arith, n, c.requires.level.each, c.loop-place-test.false, c.loop-place.auto.place-end) in
     subst (AskedTo (inquiry c.args.beside.now.system.now c.args.beside.now.level row x (answers_told c.args.store.now c.args.beside.now.olds.now) c.args.beside.now.mates.now) c.loop-place.store c.loop-place.self c.args.visited.now c.loop-place.visited) at (c.loop-place.invariant.going naming x is)
+
+pub returns-in_err-ask_next-clause-whole : goal.returns-in_err-ask_next-clause-whole
+returns-in_err-ask_next-clause-whole g c = grind (arith, common_steps)
+
+pub returns-in_err-ask_next-clause-new : goal.returns-in_err-ask_next-clause-new
+returns-in_err-ask_next-clause-new g c = grind (arith, common_steps)
+
+pub returns-in_err-ask_next-clause-room : goal.returns-in_err-ask_next-clause-room
+returns-in_err-ask_next-clause-room g c = grind (arith, common_steps)

@@ -1,5 +1,6 @@
 use Rattle.std.proofs.Common.{rules, ◌≡◌, ◌+◌, ◌++◌, ◌∷◌, [], ◌<◌, ◌≤◌, ◌^◌, ℕ, List, None, Some, Ok, Err, OnOk, OnErr, length, set, refl, sym, ap, ◌∙◌, subst, arith}
 use Rattle.std.specs.Prelude.{slice_get, option_map}
+use Rattle.std.proofs.lemmas.Grind.{common_steps}
 use Rattle.lsys_level.specs.Spots.{Spotted, spots_at, level_by, spotted_at}
 use Rattle.lsys_flat.specs.Slots.{filled_slots, slot_by_place, slot_where_told}
 use Rattle.lsys_match.specs.declared.refusal.AskRefusal.TheVariants as asks
@@ -91,3 +92,21 @@ returns-clause-room g c =
     let b = spot_at (spots_at c.args.beside.now.view.now c.args.beside.now.level) c.args.place c.requires.place in
     let replaces = c.in_ok-settle.ensures.replaced b.0 b.1 in
     replaces.room ∙ ap (λ (r : Rounded). r.next.grown.room) c.in_ok-open.ensures.opened
+
+pub returns-in_err-open-clause-new : goal.returns-in_err-open-clause-new
+returns-in_err-open-clause-new g c = grind (arith, common_steps)
+
+pub returns-in-Err-clause-stay : goal.returns-in-Err-clause-stay
+returns-in-Err-clause-stay g c = grind (arith, common_steps)
+
+pub returns-in-Err-clause-each : goal.returns-in-Err-clause-each
+returns-in-Err-clause-each g c = grind (arith, common_steps)
+
+pub settle-requires-clause-opened : goal.settle-requires-clause-opened
+settle-requires-clause-opened g c = grind (arith, common_steps)
+
+pub returns-in_err-settle-clause-each : goal.returns-in_err-settle-clause-each
+returns-in_err-settle-clause-each g c = grind (arith, common_steps)
+
+pub returns-clause-each : goal.returns-clause-each
+returns-clause-each g c = grind (arith, common_steps)

@@ -2,6 +2,7 @@ use Rattle.std.proofs.Common.{ℕ, ℤ, ◌≡◌, ◌+◌, ◌≤◌, ◌++◌,
 use Rattle.std.specs.Prelude.{IsSome, option_map, vec_capacity}
 use Rattle.std.proofs.lemmas.List.{length_push}
 use Rattle.std.proofs.lemmas.Option.{none-some}
+use Rattle.std.proofs.lemmas.Grind.{common_steps}
 use Rattle.lsys_level.specs.Places.{seen_in, params_in}
 use Rattle.lsys_region.specs.Rooms.{list_room}
 use Rattle.lsys_forest.specs.Slots.{slot_at}
@@ -78,3 +79,15 @@ returns-clause-added g c =
     gone : {A : Type 0} (o : Option (Stored A)) (x : List ℤ) (y : List ℕ) → o ≡ None → IsSome (option_map (node_of x y) o) → ⊥
     gone None x y e lives = grind (arith, lives)
     gone (Some s) x y e lives = none-some s (sym e)
+
+pub insert-number-requires-clause-capacity : goal.insert-number-requires-clause-capacity
+insert-number-requires-clause-capacity g c = grind (arith, common_steps)
+
+pub insert-number-requires-clause-numbers : goal.insert-number-requires-clause-numbers
+insert-number-requires-clause-numbers g c = grind (arith, common_steps)
+
+pub insert-number-requires-clause-room : goal.insert-number-requires-clause-room
+insert-number-requires-clause-room g c = grind (arith, common_steps)
+
+pub push_note-requires : goal.push_note-requires
+push_note-requires g c = grind (arith, common_steps)

@@ -1,4 +1,5 @@
-use Rattle.std.proofs.Common.{◌≡◌, ℕ, ℤ, [], length, map, Some, None, sym, ap, ◌∙◌}
+use Rattle.std.proofs.Common.{arith, ◌≡◌, ℕ, ℤ, [], length, map, Some, None, sym, ap, ◌∙◌}
+use Rattle.std.proofs.lemmas.Grind.{common_steps}
 use Rattle.lsys_forest.specs.declared.node.Stored.{Stored}
 use Rattle.lsys_forest.specs.Shelves.{Shelf, run_list}
 use Rattle.lsys_forest.specs.Slots.{SlotTable}
@@ -43,3 +44,12 @@ returns-clause-nodes g c =
     ∙ ap (λ k. with_node (shown_nodes t.slots params kids) k (Some (node_of [] [] c.root_stored.result))) first
     ∙ ap (λ xs. with_node (shown_nodes xs params kids) 0 (Some (node_of [] [] c.root_stored.result))) new
     ∙ ap (λ (s : Stored g.row.A.Denot). with_node (λ k. None) 0 (Some (node_of [] [] s))) c.root_stored.ensures
+
+pub returns-clause-live : goal.returns-clause-live
+returns-clause-live g c = grind (arith, common_steps)
+
+pub returns-clause-capacity : goal.returns-clause-capacity
+returns-clause-capacity g c = grind (arith, common_steps)
+
+pub returns-clause-places : goal.returns-clause-places
+returns-clause-places g c = grind (arith, common_steps)

@@ -2,6 +2,7 @@ use Rattle.std.proofs.Common.{ℕ, ℤ, ◌≡◌, ◌<◌, ◌++◌, ◌∷◌,
 use Rattle.std.specs.Prelude.{IsSome, option_map, vec_capacity}
 use Rattle.std.proofs.lemmas.List.{length_push, length-map}
 use Rattle.std.proofs.lemmas.Option.{same_Some}
+use Rattle.std.proofs.lemmas.Grind.{common_steps}
 use Rattle.lsys_forest.specs.declared.note.Was.TheVariants as was
 use Rattle.lsys_forest.specs.declared.node.Stored.{Stored}
 use Rattle.lsys_forest.specs.Shelves.{Shelf, run_list}
@@ -101,3 +102,6 @@ returns g c =
       subst (λ o. Releases g.A.Kept.run_at g.A.Kept.Holds o c.args.store.now c.release_one.new.store) (ap (λ (r : Stored g.row.A.Denot). r.answer) same ∙ ap (λ (m : Node g.row.A.Denot). m.answer) s.2) c.release_one.ensures,
     )
     ))
+
+pub push_note-requires : goal.push_note-requires
+push_note-requires g c = grind (arith, common_steps)

@@ -1,4 +1,5 @@
-use Rattle.std.proofs.Common.{ℕ, ℤ, List, map, sym, ap, ap₂, ◌∙◌, subst}
+use Rattle.std.proofs.Common.{arith, ℕ, ℤ, List, map, sym, ap, ap₂, ◌∙◌, subst}
+use Rattle.std.proofs.lemmas.Grind.{common_steps}
 use Rattle.lsys_forest.specs.Shelves.{run_list}
 use Rattle.lsys_forest.specs.Stocks.{nodes_of, IsStock}
 use Rattle.lsys_forest.proofs.ShelfLemmas.{reserve_done}
@@ -34,3 +35,36 @@ returns-clause-nodes g c =
     let p = reserve_done i.params c.reserve-2.new.self i.table.param_runs c.reserve-2.ensures.kept c.reserve-2.ensures.pool c.self.invariant.params in
     let q = reserve_done i.kids c.reserve-3.new.self i.table.kid_runs c.reserve-3.ensures.kept c.reserve-3.ensures.pool c.self.invariant.kids in
     ap₂ (λ (x : List (List ℤ)) (y : List (List ℕ)). shown_nodes i.table.slots x y) p.current q.current ∙ ap nodes_of c.self.view_is
+
+pub invariant_of-self : goal.invariant_of-self
+invariant_of-self g c = grind (arith, common_steps)
+
+pub returns-in_err-reserve-clause-notes : goal.returns-in_err-reserve-clause-notes
+returns-in_err-reserve-clause-notes g c = grind (arith, common_steps)
+
+pub returns-in_err-reserve-clause-live : goal.returns-in_err-reserve-clause-live
+returns-in_err-reserve-clause-live g c = grind (arith, common_steps)
+
+pub returns-in_err-reserve-clause-keeps : goal.returns-in_err-reserve-clause-keeps
+returns-in_err-reserve-clause-keeps g c = grind (arith, common_steps)
+
+pub overflow_add-places : goal.overflow_add-places
+overflow_add-places g c = grind (arith, common_steps)
+
+pub returns-in_err-reserve-2-clause-notes : goal.returns-in_err-reserve-2-clause-notes
+returns-in_err-reserve-2-clause-notes g c = grind (arith, common_steps)
+
+pub returns-in_err-reserve-2-clause-live : goal.returns-in_err-reserve-2-clause-live
+returns-in_err-reserve-2-clause-live g c = grind (arith, common_steps)
+
+pub returns-in_err-reserve-2-clause-keeps : goal.returns-in_err-reserve-2-clause-keeps
+returns-in_err-reserve-2-clause-keeps g c = grind (arith, common_steps)
+
+pub returns-clause-notes : goal.returns-clause-notes
+returns-clause-notes g c = grind (arith, common_steps)
+
+pub returns-clause-live : goal.returns-clause-live
+returns-clause-live g c = grind (arith, common_steps)
+
+pub returns-clause-keeps : goal.returns-clause-keeps
+returns-clause-keeps g c = grind (arith, common_steps)

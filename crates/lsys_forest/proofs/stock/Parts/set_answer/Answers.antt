@@ -1,5 +1,6 @@
-use Rattle.std.proofs.Common.{◌≡◌, Some, sym, ap, subst, refl}
+use Rattle.std.proofs.Common.{arith, ◌≡◌, Some, sym, ap, subst, refl}
 use Rattle.std.specs.Prelude.{vec_capacity}
+use Rattle.std.proofs.lemmas.Grind.{common_steps}
 use Rattle.lsys_forest.specs.declared.note.Was.TheVariants as was
 use Rattle.lsys_forest.specs.Slots.{SlotTable, answer_set}
 use Rattle.lsys_forest.specs.Nodes.{Node, with_answer}
@@ -27,3 +28,6 @@ returns g c =
     subst (λ (x : SlotTable g.row.A.Denot). Journals (stock_of i.table i.params i.kids i.notes.items (vec_capacity i.notes)) (stock_of x i.params i.kids ns.items (vec_capacity ns)) c.args.node (Some (with_answer c.args.answer n)) (OldAnswer n.answer) 0 0 0) (sym c.swap_answer-before.ensures.changed)
     (journal_slot i.table i.params i.kids i.notes.items ns.items c.args.node (was.Answer c.swap_answer-before.result) (answer_set c.args.answer) (with_answer c.args.answer) (λ x y s. refl) (vec_capacity i.notes) (vec_capacity ns) (OldAnswer n.answer) n c.push_note.ensures.pushed c.push_note.ensures.capacity c.self.invariant is (ap OldAnswer same))
     ))
+
+pub push_note-requires : goal.push_note-requires
+push_note-requires g c = grind (arith, common_steps)

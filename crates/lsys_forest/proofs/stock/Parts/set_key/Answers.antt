@@ -1,5 +1,6 @@
-use Rattle.std.proofs.Common.{◌≡◌, Some, sym, ap, subst, refl}
+use Rattle.std.proofs.Common.{arith, ◌≡◌, Some, sym, ap, subst, refl}
 use Rattle.std.specs.Prelude.{vec_capacity}
+use Rattle.std.proofs.lemmas.Grind.{common_steps}
 use Rattle.lsys_forest.specs.declared.note.Was.TheVariants as was
 use Rattle.lsys_forest.specs.Slots.{SlotTable, key_set}
 use Rattle.lsys_forest.specs.Nodes.{Node, with_key}
@@ -27,3 +28,9 @@ returns g c =
     subst (λ (x : SlotTable g.row.A.Denot). Journals (stock_of i.table i.params i.kids i.notes.items (vec_capacity i.notes)) (stock_of x i.params i.kids ns.items (vec_capacity ns)) c.args.node (Some (with_key c.args.key n)) (OldKey n.key) 0 0 0) (sym c.swap_key.ensures.changed)
     (journal_slot i.table i.params i.kids i.notes.items ns.items c.args.node (was.Key c.in-Some.before) (key_set c.args.key) (with_key c.args.key) (λ x y s. refl) (vec_capacity i.notes) (vec_capacity ns) (OldKey n.key) n c.push_note.ensures.pushed c.push_note.ensures.capacity c.self.invariant is (ap OldKey same))
     ))
+
+pub unreachable-requires : goal.unreachable-requires
+unreachable-requires g c = grind (arith, common_steps)
+
+pub push_note-requires : goal.push_note-requires
+push_note-requires g c = grind (arith, common_steps)

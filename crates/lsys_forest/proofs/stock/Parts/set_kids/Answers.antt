@@ -1,6 +1,7 @@
 use Rattle.std.proofs.Common.{ℕ, ◌≡◌, ◌<◌, ◌++◌, ◌∷◌, [], length, map, Some, refl, sym, ap, ◌∙◌, subst, arith}
 use Rattle.std.specs.Prelude.{IsSome, vec_capacity}
 use Rattle.std.proofs.lemmas.List.{length_push, length-map}
+use Rattle.std.proofs.lemmas.Grind.{common_steps}
 use Rattle.lsys_region.specs.Rooms.{list_room}
 use Rattle.lsys_forest.specs.declared.note.Was.TheVariants as was
 use Rattle.lsys_forest.specs.Shelves.{Shelf, run_list, IsOwner}
@@ -69,3 +70,9 @@ returns g c =
       hand = ap (λ (s : Shelf ℕ). s.hand) e.swapped.swapped;
       footings = λ j lives. ap (λ (x : SlotTable g.row.A.Denot). footing_at x.footings j) e.table;
     })
+
+pub swap_kids-requires-clause-room : goal.swap_kids-requires-clause-room
+swap_kids-requires-clause-room g c = grind (arith, common_steps)
+
+pub push_note-requires : goal.push_note-requires
+push_note-requires g c = grind (arith, common_steps)

@@ -1,6 +1,7 @@
 use Rattle.std.proofs.Common.{ℤ, ◌≡◌, ◌+◌, ◌≤◌, ◌<◌, ◌++◌, ◌∷◌, [], length, map, Some, refl, sym, ap, ◌∙◌, subst, arith}
 use Rattle.std.specs.Prelude.{IsSome, option_map, vec_capacity}
 use Rattle.std.proofs.lemmas.List.{length_push, length-map}
+use Rattle.std.proofs.lemmas.Grind.{common_steps}
 use Rattle.lsys_level.specs.Places.{seen_in, params_in}
 use Rattle.lsys_region.specs.Rooms.{list_room}
 use Rattle.lsys_forest.specs.Slots.{SlotTable, slot_at, footing_at, live_slots, change_slot, kind_set}
@@ -95,3 +96,15 @@ returns-clause-set g c =
       hand = refl;
       footings = λ j lives. ap (λ (y : SlotTable g.row.A.Denot). footing_at y.footings j) is_table;
     })
+
+pub kind_of-requires : goal.kind_of-requires
+kind_of-requires g c = grind (arith, common_steps)
+
+pub unreachable-requires : goal.unreachable-requires
+unreachable-requires g c = grind (arith, common_steps)
+
+pub swap_params-requires-clause-room : goal.swap_params-requires-clause-room
+swap_params-requires-clause-room g c = grind (arith, common_steps)
+
+pub push_note-requires : goal.push_note-requires
+push_note-requires g c = grind (arith, common_steps)

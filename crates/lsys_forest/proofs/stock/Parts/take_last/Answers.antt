@@ -1,6 +1,7 @@
 use Rattle.std.proofs.Common.{◌≡◌, ◌++◌, ◌∷◌, [], List, length, refl, sym, ap, ap₂, ◌∙◌, subst, arith}
 use Rattle.std.specs.Prelude.{vec_capacity}
 use Rattle.std.proofs.lemmas.List.{length_push}
+use Rattle.std.proofs.lemmas.Grind.{common_steps}
 use Rattle.lsys_forest.specs.Shelves.{shelf_of}
 use Rattle.lsys_forest.specs.Changes.{Change}
 use Rattle.lsys_forest.specs.Answers.{Lives, Releases, old_answer}
@@ -74,3 +75,6 @@ returns-in-Some-clause-taken g c =
       },
       subst (λ o. Releases g.A.Kept.run_at g.A.Kept.Holds o c.args.store.now c.take_note.new.store) (sym done.answer) e.released,
     )
+
+pub invariant_of-self-in-None : goal.invariant_of-self-in-None
+invariant_of-self-in-None g c = grind (arith, common_steps)

@@ -1,6 +1,7 @@
 use Rattle.std.proofs.Common.{◌≡◌, ◌++◌, ◌∷◌, [], List, length, refl, sym, ap, ◌∙◌, subst, arith}
 use Rattle.std.specs.Prelude.{vec_capacity}
 use Rattle.std.proofs.lemmas.List.{length_push}
+use Rattle.std.proofs.lemmas.Grind.{common_steps}
 use Rattle.lsys_forest.specs.Shelves.{shelf_of}
 use Rattle.lsys_forest.specs.Changes.{Change}
 use Rattle.lsys_forest.specs.Answers.{Lives, Releases}
@@ -86,3 +87,6 @@ returns-in-Some-clause-footings g c =
     let new : Stock g.row.A.Denot = stock_of t' p' q' c.pop.new.self.items (vec_capacity c.pop.new.self) in
     subst (λ (t : Stock g.row.A.Denot). KeepsFootings (nodes_of new) t new) c.self.view_is
     (undone_kept i.table.slots t'.slots new.params new.kids i.table.footings t'.footings k w e.slots e.footings)
+
+pub invariant_of-self-in-None : goal.invariant_of-self-in-None
+invariant_of-self-in-None g c = grind (arith, common_steps)

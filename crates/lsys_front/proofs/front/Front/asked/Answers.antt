@@ -1,5 +1,6 @@
-use Rattle.std.proofs.Common.{ℕ, sym, subst}
+use Rattle.std.proofs.Common.{arith, ℕ, sym, subst}
 use Rattle.std.proofs.lemmas.Result.{IfOk-weaker}
+use Rattle.std.proofs.lemmas.Grind.{common_steps}
 use Rattle.lsys_spec.specs.Rows.{In}
 use Rattle.lsys_forest.specs.Rows.{place_of_node}
 use Rattle.lsys_candidates.specs.Asks.{AreOnOneLevel}
@@ -35,3 +36,9 @@ returns-clause-are g c =
 
 pub returns-clause-once : goal.returns-clause-once
 returns-clause-once g c = IfOk-weaker c.in_order.result _ _ (λ ks order. placed_apart (place_of_node c.args.forest.now) ks.items order) c.in_order.ensures.order
+
+pub returns-in_err-outcome-clause-clear : goal.returns-in_err-outcome-clause-clear
+returns-in_err-outcome-clause-clear g c = grind (arith, common_steps)
+
+pub returns-clause-clear : goal.returns-clause-clear
+returns-clause-clear g c = grind (arith, common_steps)

@@ -1,4 +1,5 @@
-use Rattle.std.proofs.Common.{◌++◌, ◌∙◌, List, ℕ, inl, inr, sym, ap, subst}
+use Rattle.std.proofs.Common.{arith, ◌++◌, ◌∙◌, List, ℕ, inl, inr, sym, ap, subst}
+use Rattle.std.proofs.lemmas.Grind.{common_steps, elements}
 use Rattle.lsys_spec.specs.Rows.{In}
 use Rattle.lsys_candidates.specs.Found.{LevelChanges}
 use Rattle.lsys_front.specs.Fronts.{Differences, StandOn}
@@ -14,3 +15,9 @@ returns-clause-below g c = λ t stand k i.
       | inl j ↦ inl (subst (In k) none j)
       | inr on ↦ inr on
     ]
+
+pub returns-clause-looks : goal.returns-clause-looks
+returns-clause-looks g c = grind (arith, elements)
+
+pub returns-clause-told : goal.returns-clause-told
+returns-clause-told g c = grind (arith, common_steps)

@@ -1,4 +1,5 @@
-use Rattle.std.proofs.Common.{rules, ◌<◌}
+use Rattle.std.proofs.Common.{arith, rules, ◌<◌}
+use Rattle.std.proofs.lemmas.Grind.{common_steps}
 use Rattle.lsys_io.proofs.Taken.{took_whole, took_last, line_told, long_told}
 use Rattle.lsys_io.proofs.lines.LineReader.next_line.Goals as goal
 
@@ -43,3 +44,6 @@ returns-clause-long g c =
     c.in-Ok.gathered gathers.1 gathers.2 c.if-gathered.false some (c.in-Ok.ensures.ended c.if-gathered.false)
     )
     )
+
+pub returns-in-Err-clause-too_long_only_past_limit : goal.returns-in-Err-clause-too_long_only_past_limit
+returns-in-Err-clause-too_long_only_past_limit g c = grind (arith, common_steps)

@@ -1,4 +1,5 @@
-use Rattle.std.proofs.Common.{rules}
+use Rattle.std.proofs.Common.{arith, rules}
+use Rattle.std.proofs.lemmas.Grind.{common_steps}
 use Rattle.lsys_io.proofs.Known.{reads_part}
 use Rattle.lsys_io.proofs.never.NeverSourceSource.read.Goals as goal
 
@@ -8,3 +9,6 @@ returns-clause-gives c =
     reads_part c.self.inside.bytes.items c.args.into.now c.copy_from_slice.new.self c.self.inside.at c.min-count.result
     (search rules) (search rules)
     )
+
+pub returns-clause-amount : goal.returns-clause-amount
+returns-clause-amount c = grind (arith, common_steps)

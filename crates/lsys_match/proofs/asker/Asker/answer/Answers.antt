@@ -1,4 +1,5 @@
-use Rattle.std.proofs.Common.{rules, ◌≡◌, ap, subst, ◌∙◌, Ok, Err}
+use Rattle.std.proofs.Common.{arith, rules, ◌≡◌, ap, subst, ◌∙◌, Ok, Err}
+use Rattle.std.proofs.lemmas.Grind.{elements}
 use Rattle.lsys_level.specs.Spots.{spots_at}
 use Rattle.lsys_match.specs.declared.told.Told.{Told as CodeTold}
 use Rattle.lsys_match.specs.declared.told.Told.TheVariants.{Same, Other}
@@ -82,3 +83,12 @@ returns-clause-store g c =
     let ok : c.tell_at.result ≡ Ok (Other c.in-Other.reply) = c.in_ok-reply.was ∙ ap (λ r. Ok r) c.in-Other.is in
     let told = subst (IsTelling (λ naming. told_for naming (site_of c.args.posed.now row' p) (posed_by c.args.posed.now)) (posed_by c.args.posed.now) (old_trace c.trace_for-kept.result)) ok c.tell_at.ensures.told in
     new_one c.args.posed.now c.args.self.now.system c.args.self.now.level row row' p e c.requires.filter c.requires.posed c.requires.well.1 c.in-Other.reply c.args.store.now c.keep.new.store _ (old_trace c.trace_for-kept.result) c.in_ok-answer.answer c.trace_for-kept.ensures.trace told.0 told.1 c.in_ok-answer.ensures.kept
+
+pub returns-in_err-answer-clause-visited : goal.returns-in_err-answer-clause-visited
+returns-in_err-answer-clause-visited g c = grind (arith, elements)
+
+pub returns-in_default-clause-visited : goal.returns-in_default-clause-visited
+returns-in_default-clause-visited g c = grind (arith, elements)
+
+pub returns-in_default-clause-asked : goal.returns-in_default-clause-asked
+returns-in_default-clause-asked g c = grind (arith, elements)

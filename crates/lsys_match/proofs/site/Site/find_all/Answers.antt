@@ -1,6 +1,7 @@
 use Rattle.std.proofs.Common.{rules, length, ◌≤◌, ◌≡◌, ℕ, List, [], None, subst, arith, ap, ◌∙◌}
 use Rattle.std.specs.Prelude.{Ok, Err}
 use Rattle.std.proofs.lemmas.List.{length-map}
+use Rattle.std.proofs.lemmas.Grind.{elements}
 use Rattle.lsys_spec.specs.Choice.{none_tried, found_with, NoRule, Tried}
 use Rattle.lsys_spec.specs.Meaning.{most_entries}
 use Rattle.lsys_walks.specs.Noted.{entry_by}
@@ -62,3 +63,9 @@ pub returns-clause-found : goal.returns-clause-found
 returns-clause-found g c =
     let p = past_end (rules_of c.args.group.now) c.loop-body.place (search rules) in
     λ naming. all_none naming c.args.self.now c.loop-body.place (rules_of c.args.group.now) c.loop-body.trace.read c.loop-body.found (all_told naming c.args.self.now none_tried (Ok []) (rules_of c.args.group.now)) p (c.loop-body.invariant.2 naming) c.loop-body.invariant.1
+
+pub overflow_cast-rule : goal.overflow_cast-rule
+overflow_cast-rule g c = grind (arith, elements)
+
+pub returns-in-Some-2-clause-whole : goal.returns-in-Some-2-clause-whole
+returns-in-Some-2-clause-whole g c = grind (arith, elements)

@@ -1,5 +1,6 @@
 use Rattle.std.proofs.Common.{rules, ℕ, List, subst, arith, []}
 use Rattle.std.proofs.lemmas.List.{length-map}
+use Rattle.std.proofs.lemmas.Grind.{elements}
 use Rattle.lsys_rewrite.specs.Faults.{fault_of}
 use Rattle.lsys_walks.specs.Noted.{entry_by}
 use Rattle.lsys_spec.specs.Choice.{none_tried}
@@ -48,3 +49,6 @@ pub returns-clause-chosen : goal.returns-clause-chosen
 returns-clause-chosen g c =
     let p = past_end (rules_of c.args.group.now) c.loop-body.place (search rules) in
     λ naming. first_none naming c.args.self.now c.loop-body.place (rules_of c.args.group.now) c.loop-body.trace.read (first_told naming c.args.self.now none_tried (rules_of c.args.group.now)) p (c.loop-body.invariant.2 naming) c.loop-body.invariant.1
+
+pub overflow_cast-rule : goal.overflow_cast-rule
+overflow_cast-rule g c = grind (arith, elements)

@@ -1,4 +1,5 @@
-use Rattle.std.proofs.Common.{refl, sym, subst, ap}
+use Rattle.std.proofs.Common.{arith, refl, sym, subst, ap}
+use Rattle.std.proofs.lemmas.Grind.{elements}
 use Rattle.lsys_pass.specs.declared.state.PassState.TheVariants.{Done}
 use Rattle.lsys_pass.specs.Sizes.{HaveSizesTo}
 use Rattle.lsys_pass.specs.Passes.{PassView, stage_of, now_in}
@@ -40,3 +41,6 @@ returns-clause-all g c = elim c.if-level-depth.branch [
   | then-level-depth+in_ok-ask_level w ↦ all_to_ask _ w.ask_level.new.self c.if-level-depth.self c.args.level w.self.view_is w.in_ok-ask_level.ensures.asked w.self-is
   | else-level-depth+in_ok-end_levels w ↦ none_to_ask c.if-level-depth.self Done (ap (λ (v : PassView). v.state) w.self-is) refl
 ]
+
+pub ask_level-requires-clause-below : goal.ask_level-requires-clause-below
+ask_level-requires-clause-below g c = grind (arith, elements)

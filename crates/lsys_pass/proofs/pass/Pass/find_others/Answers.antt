@@ -1,6 +1,7 @@
 use Rattle.std.specs.Prelude.{[], IfOk}
 use Rattle.std.proofs.Common.{◌∙◌, ◌<◌, ap, subst, arith, refl}
 use Rattle.std.proofs.lemmas.Result.{IfOk-weaker}
+use Rattle.std.proofs.lemmas.Grind.{elements}
 use Rattle.lsys_spec.specs.Systems.{System}
 use Rattle.lsys_pass.specs.Passes.{PassView}
 use Rattle.lsys_pass.specs.Fresh.{row_of}
@@ -19,3 +20,6 @@ returns g c =
       others = subst (λ (v : PassView). IfOk c.others_on.result (λ others. IsOthers v c.args.level others.items)) c.self.view_is
           (IfOk-weaker c.others_on.result _ _ (λ others listed. others_some _ c.args.level c.are_all_alike.new.self _ [] others.items others.items below (c.are_all_alike.ensures.same ∙ same) refl refl refl listed) c.others_on.ensures);
     }
+
+pub returns-then-level-depth : goal.returns-then-level-depth
+returns-then-level-depth g c = grind (arith, elements)

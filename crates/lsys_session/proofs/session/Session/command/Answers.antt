@@ -1,4 +1,5 @@
-use Rattle.std.proofs.Common.{Ok, Err, ap, ◌∙◌, subst}
+use Rattle.std.proofs.Common.{arith, Ok, Err, ap, ◌∙◌, subst}
+use Rattle.std.proofs.lemmas.Grind.{common_steps}
 use Rattle.lsys_spec.specs.Systems.{System}
 use Rattle.lsys_session.specs.Requests.{IsRequest}
 use Rattle.lsys_session.proofs.Answering.{answered, answered_refusal, short_by}
@@ -17,3 +18,6 @@ returns-in-Err-clause-answers g c =
     let asked : IsRequest s c.args.line.now (Err c.in-Err.refusal) =
     subst (λ (t : System). IsRequest t c.args.line.now (Err c.in-Err.refusal)) (c.system.ensures.system ∙ ap g.D.Derivation.system_of c.self.view_is) c.in-Err.ensures in
     answered_refusal g.K.Sink.written g.K.Sink.faults c.args.sink.now c.refuse-in-Err.new.sink c.refuse-in-Err.new.out (g.D.Derivation.limit_of c.args.self.now) s c.args.line.now c.refuse-in-Err.result c.in-Err.refusal (short_by c.args.line.now c.if-line-gt-MOST_LINE_BYTES.false) asked c.refuse-in-Err.ensures
+
+pub returns-in-Ok-clause-counts : goal.returns-in-Ok-clause-counts
+returns-in-Ok-clause-counts g c = grind (arith, common_steps)
