@@ -1,13 +1,14 @@
 //! The front of the next level.
-ghost use Rattle.std.specs.Prelude.{◌≡◌, ◌++◌, ℕ, [], IfOk};
+ghost use Rattle.std.specs.Prelude.{◌≡◌, ◌++◌, ℕ, [], IfOk, OnOk};
 ghost use Rattle.lsys_spec.specs.Rows.{In};
 ghost use Rattle.lsys_forest.specs.Groves.{IsLive};
-ghost use Rattle.lsys_front.specs.Fronts.{IsToldNext, StandOn};
+ghost use Rattle.lsys_front.specs.Fronts.{IsToldNext, StandOn, no_differences};
 ghost use Rattle.lsys_front.specs.LooksFrom.{moved_in, LooksFrom, LooksOnlyBelow};
 
 use crate::ends::add_children;
 use crate::front::Front;
 use lsys_brood::Changes;
+use lsys_candidates::Changes as LevelChanges;
 use lsys_forest::Forest;
 use lsys_kept::KeptAnswer;
 use std::alloc::{AllocError, Global};
@@ -38,12 +39,32 @@ impl Front {
         ensures bare { IfOk result (λ next. next.bare ≡ []) }
     {
         let mut next = Front::new(alloc);
-        let changes = &mut next.changes;
+        self.tell_next(forest, told, &mut next.changes)?;
+        Ok(next)
+    }
+
+    /// Tells how the next level changed, and who is looked at there.
+    ///
+    /// # Errors
+    ///
+    /// Want of memory.
+    fn tell_next<L: Ledger>(
+        &self,
+        forest: &Forest<KeptAnswer<L>>,
+        told: &Changes,
+        changes: &mut LevelChanges,
+    ) -> Result<(), AllocError>
+        requires lives { (k : ℕ) → In k self.now.changes.gone → IsLive forest.now k }
+        requires level { (t : ℕ) × StandOn forest.now t (told.now.touched ++ moved_in self.now) }
+        requires none { changes.old ≡ no_differences.changes }
+        ensures told { OnOk result (IsToldNext forest.now self.now told.now changes.new) }
+        ensures looks { OnOk result (LooksFrom forest.now self.now told.now.touched changes.new.looked) }
+        ensures below { OnOk result (LooksOnlyBelow forest.now self.now told.now changes.new) }
+    {
         changes.came.extend_from_slice(told.added())?;
         changes.changed.extend_from_slice(told.changed())?;
         changes.gone.extend_from_slice(told.gone())?;
         add_children(forest, &self.changes.gone, &mut changes.gone)?;
-        self.look_below(forest, told.touched(), &mut changes.looked)?;
-        Ok(next)
+        self.look_below(forest, told.touched(), &mut changes.looked)
     }
 }

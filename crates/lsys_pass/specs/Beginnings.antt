@@ -1,11 +1,13 @@
 -- The first level of another system, made from a pass at rest.
-use Rattle.std.specs.Prelude.{◌≡◌, ◌≤◌, ◌∷◌, [], ℕ, map, Option, MatchOption}
+use Rattle.std.specs.Prelude.{◌≡◌, ◌≢◌, ◌≤◌, ◌∷◌, [], ℕ, List, map, false, Option, None, Some, MatchOption}
 use Rattle.lsys_match.specs.Derivations.{IsLevelRefusal}
 use Rattle.lsys_spec.specs.Systems.{System, WellSpelled}
 use Rattle.lsys_rewrite.specs.declared.refusal.DeriveRefusal.{DeriveRefusal}
 use Rattle.lsys_match.specs.Kept.{Kept}
-use Rattle.lsys_forest.specs.Nodes.{Nodes}
-use Rattle.lsys_forest.specs.Groves.{Grove, now_of, changes_in, live_nodes}
+use Rattle.lsys_forest.specs.Nodes.{Nodes, root_node}
+use Rattle.lsys_forest.specs.Groves.{Grove, now_of, changes_in, live_nodes, IsAtRest}
+use Rattle.lsys_kept.specs.declared.seat.Seat.{Seat}
+use Rattle.lsys_kept.specs.Seats.{is_marked, HasSeat}
 use Rattle.lsys_forest.specs.Rows.{kids_in}
 use Rattle.lsys_brood.specs.Matches.{nodes_without}
 use Rattle.lsys_brood.specs.Children.{ToldNodes}
@@ -26,6 +28,15 @@ pub record KeepsNodes {A : Type 0} (old new : Grove A) : Type 0 where
   pub changes : changes_in new ≡ changes_in old
   pub root : new.root ≡ old.root
   pub live : live_nodes new ≡ live_nodes old
+
+-- a forest is its root alone, and the seats beside it tell of nobody: there is one for the root
+pub record IsGrown {A : Type 0} (forest : Grove A) (seats : List Seat) : Type 0 where
+  pub others : (k : ℕ) → k ≢ forest.root → now_of forest k ≡ None
+  pub root : now_of forest forest.root ≡ Some (root_node forest.root)
+  pub rest : IsAtRest forest
+  pub live : live_nodes forest ≡ 1
+  pub unmarked : (k : ℕ) → is_marked seats k ≡ false
+  pub seated : HasSeat seats forest.root
 
 -- The children of the root were made those of the axiom of a system, which are no more than the limit, and it was told what differs.
 pub record MakesFirst (s : System) (limit : ℕ) (old new : Nodes Kept) (root : ℕ)

@@ -6,6 +6,7 @@ ghost use Rattle.lsys_spec.specs.Systems.{opening};
 ghost use Rattle.lsys_spec.specs.Questions.{questions};
 ghost use Rattle.lsys_match.specs.Derivations.{Rises, most_read, IsLevelRefusal};
 ghost use Rattle.lsys_pass.specs.declared.state.PassState.TheVariants.{Rest, Level, Done, Failed};
+ghost use Rattle.lsys_pass.specs.Beginnings.{IsGrown};
 ghost use Rattle.lsys_pass.specs.Passes.{HasOwnRuns, IsPass};
 ghost use Rattle.lsys_pass.specs.Works.{IsCleared};
 ghost use Rattle.lsys_pass.specs.Moves.{AtLevel, Fails, IsBack, StepsOver, Waits, ComesToRest, CountsBoth, MovesBoth};
@@ -118,8 +119,7 @@ impl<L: Ledger> Pass<L> {
         ensures limit { IfOk result (λ p. p.limit ≡ limit) }
     {
         let system = System::opening(alloc)?;
-        let forest = Forest::new(alloc)?;
-        let seats = seat_alone(alloc, forest.root())?;
+        let (forest, seats) = grown(alloc)?;
         Ok(Pass {
             forest,
             store: AnswerStore::new(alloc),
@@ -275,6 +275,19 @@ impl<L: Ledger> Pass<L> {
         work.clear();
         *state = PassState::Rest;
     }
+}
+
+/// A forest of its root alone, and seats with one for the root, which tells of nobody.
+///
+/// # Errors
+///
+/// Want of memory.
+fn grown<L: Ledger>(alloc: Global) -> Result<(Forest<KeptAnswer<L>>, Seats), AllocError>
+    ensures { IfOk result (λ p. IsGrown p.0 p.1) }
+{
+    let forest = Forest::new(alloc)?;
+    let seats = seat_alone(alloc, forest.root())?;
+    Ok((forest, seats))
 }
 
 /// Seats with one for this node, which tells of nobody.

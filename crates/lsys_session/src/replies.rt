@@ -1,5 +1,5 @@
 //! The texts of replies.
-ghost use Rattle.std.specs.Prelude.{◌≡◌, ◌∷◌, [], decimal};
+ghost use Rattle.std.specs.Prelude.{◌≡◌, ◌∷◌, ◌++◌, [], decimal, codes};
 ghost use Rattle.lsys_io.specs.Putting.{Puts};
 ghost use Rattle.lsys_spec.specs.Refusals.{with_number, fault_word, image_text};
 ghost use Rattle.lsys_session.specs.Requests.{cause_text, column_text, count_text, derivation_line, refusal_column, refusal_line, refusal_text, refusal_words, fault_text, image_fault_text};
@@ -60,6 +60,19 @@ fn put_number<K: Sink>(out: &mut Buffered, sink: &mut K, number: u32) -> Result<
     ensures { Puts K.Sink sink out (decimal number) result }
 {
     out.put_number(sink, i128::from(number))
+}
+
+// Puts words and, right behind them, a number.
+fn put_with_number<K: Sink>(
+    out: &mut Buffered,
+    sink: &mut K,
+    words: &[u8],
+    number: u64,
+) -> Result<(), Failed>
+    ensures { Puts K.Sink sink out (words.now ++ decimal number) result }
+{
+    out.put(sink, words)?;
+    put_large_number(out, sink, number)
 }
 
 fn put_large_number<K: Sink>(out: &mut Buffered, sink: &mut K, number: u64) -> Result<(), Failed>
@@ -151,15 +164,16 @@ fn put_fault<K: Sink>(
 ) -> Result<(), Failed>
     ensures { Puts K.Sink sink out (fault_text kind level place) result }
 {
-    out.put(sink, b"fault ")?;
     put_kind(out, sink, kind)?;
     put_numbered(out, sink, b" level", level)?;
     put_numbered(out, sink, b" module", place)
 }
 
+// Puts which kind of fault it is.
 fn put_kind<K: Sink>(out: &mut Buffered, sink: &mut K, kind: FaultKind) -> Result<(), Failed>
-    ensures { Puts K.Sink sink out (fault_word (fault_of kind)) result }
+    ensures { Puts K.Sink sink out (codes "fault " ++ fault_word (fault_of kind)) result }
 {
+    out.put(sink, b"fault ")?;
     out.put(sink, kind.word().as_bytes())
 }
 
@@ -214,7 +228,6 @@ fn put_image_fault<K: Sink>(
 ) -> Result<(), Failed>
     ensures { Puts K.Sink sink out (image_fault_text kind place) result }
 {
-    out.put(sink, b"fault ")?;
     put_kind(out, sink, kind)?;
     put_numbered(out, sink, b" image", place)
 }
@@ -244,10 +257,8 @@ pub(crate) fn put_count<K: Sink>(
 ) -> Result<(), Failed>
     ensures { Puts K.Sink sink out (count_text count) result }
 {
-    out.put(sink, b"ok ")?;
-    put_large_number(out, sink, count.asked)?;
-    out.put(sink, b"/")?;
-    put_large_number(out, sink, count.questions)?;
+    put_with_number(out, sink, b"ok ", count.asked)?;
+    put_with_number(out, sink, b"/", count.questions)?;
     out.put(sink, b"\n")
 }
 

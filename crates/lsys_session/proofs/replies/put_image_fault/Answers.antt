@@ -1,15 +1,10 @@
-use Rattle.std.proofs.Common.{◌++◌, codes}
-use Rattle.lsys_spec.specs.Refusals.{fault_word, with_number}
-use Rattle.lsys_rewrite.specs.Faults.{fault_of}
+use Rattle.std.proofs.Common.{codes}
+use Rattle.lsys_spec.specs.Refusals.{with_number}
 use Rattle.lsys_io.proofs.Puts.{puts_then, puts_failed}
 use Rattle.lsys_session.proofs.replies.put_image_fault.Goals as goal
 
-pub returns-in_err-put : goal.returns-in_err-put
-returns-in_err-put g c = puts_failed (fault_word (fault_of c.args.kind) ++ with_number (codes " image") c.args.place) c.from_residual.ensures.0 c.in_err-put.ensures
-
 pub returns-in_err-put_kind : goal.returns-in_err-put_kind
-returns-in_err-put_kind g c =
-    puts_then c.in_ok-put.ensures (puts_failed (with_number (codes " image") c.args.place) c.from_residual-in_err-put_kind.ensures.0 c.in_err-put_kind.ensures)
+returns-in_err-put_kind g c = puts_failed (with_number (codes " image") c.args.place) c.from_residual.ensures.0 c.in_err-put_kind.ensures
 
 pub returns : goal.returns
-returns g c = puts_then c.in_ok-put.ensures (puts_then c.in_ok-put_kind.ensures c.put_numbered.ensures)
+returns g c = puts_then c.in_ok-put_kind.ensures c.put_numbered.ensures
