@@ -9,8 +9,6 @@ ghost use Rattle.lsys_desks.specs.LedBack.{WithoutDeskLinesNothingChanges, CutSc
 ghost use Rattle.lsys_desks.specs.CostsOfDesks.{LinesThatLeadReplyAsEdits, LeadCostsAreTold, WithoutDeskLinesCostsAreTheSame, DeskCostsAddUpLineByLine, NoDeskCostsAreAddedBehindTheEnd};
 
 mod history;
-#[cfg(test)]
-mod tests;
 
 pub use history::{History, MOST_KEPT};
 

@@ -1,5 +1,5 @@
-//! Tests of derivations: that the one over lists and the one over a forest answer scripts with the same bytes, the steps that lists
-//! are made by, what a pass does in any order, and what a session holds behind each line.
+//! Tests of derivations: that the one over lists and the one over a forest answer scripts with the same bytes,
+//! what a pass does in any order, and what a session holds behind each line.
 //!
 //! Tests stand in crates of their own, so that no crate below is proved a second time with its tests.
 #![tactic(auto)]
@@ -16,8 +16,6 @@ mod orders;
 mod pass_edits;
 #[cfg(test)]
 mod scripts;
-#[cfg(test)]
-mod steps;
 #[cfg(test)]
 mod tables;
 #[cfg(test)]

@@ -179,3 +179,22 @@ fn ends_that_never_fail(rt: HostRuntime) -> Result<(), Fail> {
     assert_eq!(rt; sink.count(), 44);
     Ok(())
 }
+
+fn status_codes() -> &'static [(Status, u8)] {
+    &[
+        (Status::Done, 0),
+        (Status::Refused, 1),
+        (Status::Usage, 2),
+        (Status::ReadFault, 3),
+        (Status::WriteFault, 4),
+        (Status::Memory, 5),
+        (Status::TooLong, 6),
+    ]
+}
+
+#[test]
+fn exit_codes(rt: HostRuntime) {
+    for (status, code) in status_codes() {
+        assert_eq!(rt; status.code(), *code);
+    }
+}

@@ -1,4 +1,5 @@
-//! Tests of the program over sources and sinks in memory: scripts with their replies, its words, its sizes, and ends that fail.
+//! Tests of the program over sources and sinks in memory: scripts with their replies, ends that fail, and the codes
+//! of statuses.
 //!
 //! Tests stand in crates of their own, so that no crate below is proved a second time with its tests.
 #![tactic(auto)]
@@ -8,9 +9,5 @@ mod edits;
 #[cfg(test)]
 mod failing;
 mod runs;
-#[cfg(test)]
-mod sizes;
-#[cfg(test)]
-mod words;
 
 pub use runs::{ran_by, status_of};

@@ -1,4 +1,0 @@
-pub mod Forests
-pub mod Levels
-pub mod Turtles
-pub mod Walks
