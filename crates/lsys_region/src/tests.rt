@@ -6,26 +6,44 @@ ghost use Rattle.lsys_region.specs.Rooms.{HaveOneRoom};
 use crate::{Region, Run, room};
 use std::alloc::{AllocError, Global};
 use std::marker::Model;
+use std::process::Abort;
 use std::test::Fail;
+
+/// A run has this list.
+fn is_read(rt: &impl Abort, region: &Region<u8>, run: &Run, list: &[u8])
+    requires { IsLiveRun region.now run.now }
+{
+    assert_eq!(rt; region.read(run), list);
+}
+
+/// The vector of a region has so many cells.
+fn has_cells(rt: &impl Abort, region: &Region<u8>, count: usize) {
+    assert_eq!(rt; region.cells.len(), count);
+}
+
+#[test]
+#[tactic(auto, unfolding(crate::specs::Rooms::room_of))]
+fn an_empty_list_needs_no_room(rt: HostRuntime) {
+    let mut region = Region::<u8>::new(rt.alloc());
+    let none = region.place(&[]);
+    is_read(&rt, &region, &none, &[]);
+}
 
 #[test]
 #[tactic(auto, unfolding(crate::specs::Rooms::room_of))]
 fn freed_room_is_placed_again(rt: HostRuntime) -> Result<(), Fail> {
     let mut region = Region::<u8>::new(rt.alloc());
-    let none = region.place(&[]);
-    assert_eq!(rt; region.read(&none), [].as_slice());
-
     region.reserve(8)?;
     let a = region.place(&[1, 2, 3]);
     let b = region.place(&[4, 5, 6, 7]);
-    assert_eq!(rt; region.read(&a), [1, 2, 3].as_slice());
-    assert_eq!(rt; region.read(&b), [4, 5, 6, 7].as_slice());
+    is_read(&rt, &region, &a, &[1, 2, 3]);
+    is_read(&rt, &region, &b, &[4, 5, 6, 7]);
 
     region.free(a);
     region.reserve(4)?;
     let c = region.place(&[8]);
-    assert_eq!(rt; region.read(&c), [8].as_slice());
-    assert_eq!(rt; region.read(&b), [4, 5, 6, 7].as_slice());
+    is_read(&rt, &region, &c, &[8]);
+    is_read(&rt, &region, &b, &[4, 5, 6, 7]);
     Ok(())
 }
 
@@ -49,8 +67,8 @@ fn a_list_replaces_one_of_the_same_room(rt: HostRuntime) -> Result<(), Fail> {
     region.reserve(4)?;
     let first = region.place(&[1, 2, 3]);
     let second = replaced(&mut region, first, &[4, 5, 6, 7])?;
-    assert_eq!(rt; region.read(&second), [4, 5, 6, 7].as_slice());
-    assert_eq!(rt; region.cells.len(), 4);
+    is_read(&rt, &region, &second, &[4, 5, 6, 7]);
+    has_cells(&rt, &region, 4);
     Ok(())
 }
 
@@ -134,37 +152,66 @@ fn list_of(alloc: Global, first: u8, len: u8) -> Result<Vec<u8>, AllocError>
     (0..len).map(|at| first.wrapping_add(at)).collect(alloc)
 }
 
+/// Each run of a shelf has the list beside it.
+fn has_its_lists(rt: &impl Abort, shelf: &Shelf) {
+    assert!(rt; shelf.agrees());
+}
+
+/// A shelf has so many lists.
+fn has_lists(rt: &impl Abort, shelf: &Shelf, count: usize) {
+    assert_eq!(rt; shelf.len(), count);
+}
+
+/// Puts a list of a round, and takes one in three rounds of five.
+fn play(alloc: Global, shelf: &mut Shelf, round: u64) -> Result<(), AllocError>
+    requires { round < 600 }
+{
+    let list = list_of(alloc, (round % 251) as u8, (round * 37 % 101) as u8)?;
+    shelf.put(alloc, list.as_slice())?;
+    if round % 5 > 1 {
+        let at = round as usize * 13 % shelf.len();
+        shelf.take(at);
+    }
+    Ok(())
+}
+
 #[test]
 fn runs_of_many_sizes_agree_with_a_plain_list(rt: HostRuntime) -> Result<(), Fail> {
     let mut shelf = Shelf::new(rt.alloc());
     for round in 0..600u64 {
-        let list = list_of(rt.alloc(), (round % 251) as u8, (round * 37 % 101) as u8)?;
-        shelf.put(rt.alloc(), list.as_slice())?;
-        if round % 5 > 1 {
-            let at = round as usize * 13 % shelf.len();
-            shelf.take(at);
-        }
-        assert!(rt; shelf.agrees(), "after round {round}");
+        play(rt.alloc(), &mut shelf, round)?;
+        has_its_lists(&rt, &shelf);
     }
-    assert_eq!(rt; shelf.len(), 240);
+    has_lists(&rt, &shelf, 240);
     Ok(())
+}
+
+/// Puts a list of each length below 60.
+fn fill(alloc: Global, shelf: &mut Shelf) -> Result<(), AllocError> {
+    for len in 0..60u8 {
+        let list = list_of(alloc, len, len)?;
+        shelf.put(alloc, list.as_slice())?;
+    }
+    Ok(())
+}
+
+/// Takes all lists, beginning at a place that goes by the cycle.
+fn empty(shelf: &mut Shelf, cycle: usize) {
+    'all: while shelf.len() > 0 {
+        let at = cycle % shelf.len();
+        shelf.take(at);
+    }
 }
 
 #[test]
 fn cycles_run_in_bounded_memory(rt: HostRuntime) -> Result<(), Fail> {
     let mut shelf = Shelf::new(rt.alloc());
     for cycle in 0..20usize {
-        for len in 0..60u8 {
-            let list = list_of(rt.alloc(), len, len)?;
-            shelf.put(rt.alloc(), list.as_slice())?;
-        }
-        assert!(rt; shelf.agrees(), "in cycle {cycle}");
+        fill(rt.alloc(), &mut shelf)?;
+        has_its_lists(&rt, &shelf);
         // 1 + 2 + 2 * 4 + 4 * 8 + 8 * 16 + 16 * 32 + 27 * 64
-        assert_eq!(rt; shelf.region.cells.len(), 2411, "in cycle {cycle}");
-        'empty: while shelf.len() > 0 {
-            let at = cycle % shelf.len();
-            shelf.take(at);
-        }
+        has_cells(&rt, &shelf.region, 2411);
+        empty(&mut shelf, cycle);
     }
     Ok(())
 }

@@ -73,16 +73,26 @@ fn numbers_are_put(
     Ok(())
 }
 
+/// Puts words, more bytes than are buffered, and numbers by `out`, which takes them, and keeps them in `expected`.
+fn all_are_put(
+    rt: &impl Abort,
+    out: &mut Buffered,
+    sink: &mut MemorySink,
+    expected: &mut Vec<u8>,
+) -> Result<(), Fail> {
+    for _ in 0..1000 {
+        is_put(rt, out, sink, expected, b"lines")?;
+    }
+    is_put(rt, out, sink, expected, &[b'x'; 5000])?;
+    numbers_are_put(rt, out, sink, expected)
+}
+
 #[test]
 fn buffered_bytes_come_in_order(rt: HostRuntime) -> Result<(), Fail> {
     let mut sink = MemorySink::new(rt.alloc(), 20_000, 1000, Vec::new(rt.alloc()))?;
     let mut expected = Vec::new(rt.alloc());
     let mut out = Buffered::new(rt.alloc())?;
-    for _ in 0..1000 {
-        is_put(&rt, &mut out, &mut sink, &mut expected, b"lines")?;
-    }
-    is_put(&rt, &mut out, &mut sink, &mut expected, &[b'x'; 5000])?;
-    numbers_are_put(&rt, &mut out, &mut sink, &mut expected)?;
+    all_are_put(&rt, &mut out, &mut sink, &mut expected)?;
     is_flushed(&rt, &mut out, &mut sink, &expected);
     fails_at_its_flush(&rt, rt.alloc(), &mut out)
 }

@@ -1,4 +1,5 @@
 use Rattle.std.proofs.Common.{◌≤◌, ◌+◌, ◌-◌, length, take, drop, sym, ◌∙◌, arith}
+use Rattle.std.proofs.lemmas.Grind.{common_steps, elements}
 use Rattle.lsys_text.specs.Tokens.{kind_row}
 use Rattle.lsys_reading.specs.Spans.{expr_at}
 use Rattle.lsys_checks.proofs.Searches.{passes-room, passes-found, span-tokens, searches-expr, searches-expr_found, expr-length}
@@ -23,3 +24,9 @@ returns c =
     let ts = take (c.args.span.to - c.args.span.from) (drop c.args.span.from c.args.tokens.now) in
     let e = expr_at (kind_row c.args.tokens.now) c.args.span in
     searches-expr e ts c.loop-token.token-index (span-tokens c.args.tokens.now c.args.span c.requires.span) c.loop-token-test.false c.loop-token.invariant
+
+pub offset_bounds-token-items-token-index : goal.offset_bounds-token-items-token-index
+offset_bounds-token-items-token-index c = grind (arith, elements)
+
+pub loop-token-preserved : goal.loop-token-preserved
+loop-token-preserved c = grind (arith, common_steps)

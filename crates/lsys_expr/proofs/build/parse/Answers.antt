@@ -1,6 +1,7 @@
-use Rattle.std.proofs.Common.{◌≡◌, ap, Some}
+use Rattle.std.proofs.Common.{arith, ◌≡◌, ap, Some}
 use Rattle.std.specs.Option.{option_map}
 use Rattle.std.proofs.lemmas.Result.{IfOk-weaker}
+use Rattle.std.proofs.lemmas.Grind.{common_steps}
 use Rattle.lsys_spec.specs.Values.{expr_tree}
 use Rattle.lsys_expr.specs.InsideExpr.{expression_spelled}
 use Rattle.lsys_expr.specs.Parts.{names_of}
@@ -35,3 +36,6 @@ returns c =
     (λ t. tree_of t ≡ expr_tree fs (expression_spelled c.args.kinds.now))
     (λ t h. whole-tree fs (expression_spelled c.args.kinds.now) (tree_of c.in-Some.last) (tree_of t) _ _ _ whole last h)
     c.reduce.ensures
+
+pub unreachable-requires : goal.unreachable-requires
+unreachable-requires c = grind (arith, common_steps)

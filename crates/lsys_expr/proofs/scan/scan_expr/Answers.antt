@@ -1,4 +1,5 @@
-use Rattle.std.proofs.Common.{◌≡◌, ◌+◌, ℕ, List, [], ◌∷◌, drop, length, Ok, Err, subst}
+use Rattle.std.proofs.Common.{arith, ◌≡◌, ◌+◌, ℕ, List, [], ◌∷◌, drop, length, Ok, Err, subst}
+use Rattle.std.proofs.lemmas.Grind.{common_steps, elements}
 use Rattle.lsys_syntax.specs.Tokens.{Kind}
 use Rattle.lsys_syntax.specs.ExpressionPlaces.{extent}
 use Rattle.lsys_syntax.proofs.Extents.{tokens-rest}
@@ -91,3 +92,9 @@ returns-else-is_whole-clause-place c =
     subst (λ n. IsExtent from (extent ks) (Err (Token n))) end
     (later-extent from (extent ks) (Err (Token i)) (reached-early ks i c.loop-ahead.scan.awaited c.loop-ahead.scan.levels r q (c.if-is_whole.ensures r.state r.kept))) in
     placed-so from ks (Err (Token (length c.args.tokens.now))) (tokens-rest from (kind_row c.args.tokens.now) c.requires.forms) told
+
+pub loop-ahead-init : goal.loop-ahead-init
+loop-ahead-init c = grind (arith, elements)
+
+pub returns-else-is_whole-clause-extent : goal.returns-else-is_whole-clause-extent
+returns-else-is_whole-clause-extent c = grind (arith, common_steps)

@@ -1,4 +1,5 @@
-use Rattle.std.proofs.Common.{◌∷◌, [], ◌++◌, ◌∙◌, ap, map}
+use Rattle.std.proofs.Common.{arith, ◌∷◌, [], ◌++◌, ◌∙◌, ap, map}
+use Rattle.std.proofs.lemmas.Grind.{common_steps}
 use Rattle.lsys_io.proofs.Puts.{puts_then, puts_failed}
 use Rattle.lsys_module.specs.Printing.{params_text, more_text}
 use Rattle.lsys_module.proofs.PrintedTexts.{params-text}
@@ -21,3 +22,6 @@ returns g c =
     let n = g.N.Notation.way in
     rw (ap (λ ps. params_text n.print (map n.param ps)) c.in-Some.ensures.cases.0 ∙ params-text n.print (n.param c.in-Some.first.now) (map n.param c.in-Some.others.now))
     (puts_then c.in_ok-put.ensures (puts_then c.in_ok-put_param.ensures (puts_then c.in_ok-put_more.ensures c.put-2.ensures)))
+
+pub returns-in_default : goal.returns-in_default
+returns-in_default g c = grind (arith, common_steps)

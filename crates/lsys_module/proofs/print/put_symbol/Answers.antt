@@ -1,4 +1,5 @@
-use Rattle.std.proofs.Common.{map}
+use Rattle.std.proofs.Common.{arith, map}
+use Rattle.std.proofs.lemmas.Grind.{elements}
 use Rattle.lsys_io.proofs.Puts.{puts_then, puts_failed, puts_refused, puts_answering}
 use Rattle.lsys_module.specs.Views.{module_name}
 use Rattle.lsys_module.specs.Printing.{params_text}
@@ -25,3 +26,6 @@ pub returns-else-long-clause-put : goal.returns-else-long-clause-put
 returns-else-long-clause-put g c =
     let n = g.N.Notation.way in
     rw (← c.in-Module.ensures, module-behind n.print c.args.runs_on (module_name c.in-Module.name) (map n.param c.in-Module.params.now)) (puts_then c.in_ok-long-in-Module.ensures.put (puts_answering c.in_ok-put_params-in-Module.ensures))
+
+pub returns-then-long-clause-runs_on : goal.returns-then-long-clause-runs_on
+returns-then-long-clause-runs_on g c = grind (arith, elements)

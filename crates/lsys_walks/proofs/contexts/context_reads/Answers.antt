@@ -1,5 +1,6 @@
 use Rattle.std.proofs.Common.{◌≡◌, ℕ, List, [], ◌++◌, ◌+◌, ◌≤◌, length, map, reverse, Ok, IfOk, ap, ◌∙◌, arith, rules, subst, refl, sym, Err, OnErr}
 use Rattle.std.proofs.lemmas.List.{length-map}
+use Rattle.std.proofs.lemmas.Grind.{elements}
 use Rattle.lsys_spec.specs.Levels.{way, items_from}
 use Rattle.lsys_spec.specs.Walks.{left_walk, right_walk}
 use Rattle.lsys_spec.specs.Choice.{params_of}
@@ -77,3 +78,9 @@ returns-in_err-walked-in-Found-clause-refused g c =
     let bad : c.right_reads.result ≡ Err _ = c.in_err-walked-in-Found.was in
     λ m i naming. on_err _ _ (right_front (ignored_by (filter_of c.args.filter)) (record { rule = c.args.rule; depth = 0 }) (body_value c.args.body.now) m (way (level_by naming (spots_at (g.W.LevelView.levels c.args.view.now) (g.W.LevelView.level_of c.args.view.now c.args.spot))) (g.W.LevelView.place_of c.args.view.now c.args.spot)) (items_from (level_by naming (spots_at (g.W.LevelView.levels c.args.view.now) (g.W.LevelView.level_of c.args.view.now c.args.spot))) ((g.W.LevelView.place_of c.args.view.now c.args.spot) + 1)) most_entries (map as_pattern c.deref.result.now) (patterns_from c.deref-in-Found.result.now 0) (ap (map as_pattern) (sym c.deref.ensures.value)) (ap (λ items. patterns_from items 0) (sym c.deref-in-Found.ensures.value)) (es_of naming c.args.trace.now.read) (es_of naming c.left_reads.new.trace.read) (es_of naming c.right_reads.new.trace.read) (h naming).2 (h naming).3 (h naming).0
     (subst (λ r. OnErr r (ReadsFront (right_walk (ignored_by (filter_of c.args.filter)) (record { rule = c.args.rule; depth = 0 }) (patterns_from c.deref-in-Found.result.now 0) (items_from (level_by naming (spots_at (g.W.LevelView.levels c.args.view.now) (g.W.LevelView.level_of c.args.view.now c.args.spot))) ((g.W.LevelView.place_of c.args.view.now c.args.spot) + 1))) (es_of naming c.left_reads.new.trace.read) (es_of naming c.right_reads.new.trace.read))) bad (c.right_reads.ensures.refused naming)))
+
+pub returns-in_err-extend_from_slice-in-Found-clause-told : goal.returns-in_err-extend_from_slice-in-Found-clause-told
+returns-in_err-extend_from_slice-in-Found-clause-told g c = grind (arith, elements)
+
+pub right_reads-requires-clause-depth : goal.right_reads-requires-clause-depth
+right_reads-requires-clause-depth g c = grind (arith, elements)

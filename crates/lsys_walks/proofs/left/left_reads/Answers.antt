@@ -1,5 +1,6 @@
 use Rattle.std.proofs.Common.{◌∷◌, [], ◌++◌, ◌-◌, length, map, refl, ap, sym, ◌∙◌, arith, rules}
 use Rattle.std.proofs.lemmas.List.{length-map}
+use Rattle.std.proofs.lemmas.Grind.{elements}
 use Rattle.lsys_spec.specs.Meaning.{ignored_by, most_entries}
 use Rattle.lsys_level.specs.Spots.{spots_at}
 use Rattle.lsys_bodies.specs.Filters.{filter_of}
@@ -88,3 +89,15 @@ returns-in_err-push_reversed-in-Matched-clause-refused g c =
     let st = stands g (goal.at.returns-in_err-push_reversed-in-Matched-clause-refused g c).After-tag-tag in
     let q = same_pattern c.args.patterns.now (c.loop-due.due - 1) c.index-patterns-due.result (omega (arith, c.loop-due-test.true, c.loop-due.invariant.2.few, length-map c.args.patterns.now as_pattern)) c.index-patterns-due.is in
     λ naming. on_err _ _ (walk_met_front _ _ _ _ c.loop-due.invariant.2 c.in-Some.ensures.1 c.loop-due-test.true q (seen_at st c.in-Module.ensures.seen c.tag-tag.ensures.tag) c.in_ok-walked-in-Module.ensures.noted naming)
+
+pub tag-requires : goal.tag-requires
+tag-requires g c = grind (arith, elements)
+
+pub loop-due-smaller-in-Pop : goal.loop-due-smaller-in-Pop
+loop-due-smaller-in-Pop g c = grind (arith, elements)
+
+pub offset_bounds-patterns-due : goal.offset_bounds-patterns-due
+offset_bounds-patterns-due g c = grind (arith, elements)
+
+pub bounds-patterns-due : goal.bounds-patterns-due
+bounds-patterns-due g c = grind (arith, elements)

@@ -1,5 +1,6 @@
 use Rattle.std.proofs.Common.{◌≡◌, ◌∷◌, ◌++◌, ◌+◌, ◌≤◌, ℕ, List, [], length, take, Some, Ok, refl, ap, sym, ◌∙◌, arith, rules, subst}
 use Rattle.std.proofs.lemmas.List.{take_all, length-map}
+use Rattle.std.proofs.lemmas.Grind.{elements, common_steps}
 use Rattle.lsys_spec.specs.Levels.{items_from}
 use Rattle.lsys_spec.specs.Meaning.{ignored_by, most_entries}
 use Rattle.lsys_level.specs.Spots.{spots_at, level_by}
@@ -166,3 +167,36 @@ inner_reads-returns-in_err-walked g t c =
     let here = item_at c.args.items.now c.args.next c.index-items-next.result c.requires.within c.index-items-next.is in
     let push = here ∙ ap (λ i. Some i) c.in-Push.is in
     record { told = search rules; refused = λ naming. on_err _ _ (subst (λ t. ReadsFront t (es_of naming c.args.trace.now.read) (es_of naming c.right_reads.new.trace.read)) (sym (inner_push (ignored_by (filter_of c.args.filter)) (mark_of c.args.mark) (spots_at (g.W.LevelView.levels c.args.view.now) (g.W.LevelView.level_of c.args.view.now c.args.spot)) c.args.items.now c.args.next (items_from (level_by naming (spots_at (g.W.LevelView.levels c.args.view.now) (g.W.LevelView.level_of c.args.view.now c.args.spot))) (g.W.LevelView.place_of c.args.view.now c.args.spot + 1)) push)) (c.in_err-walked.ensures.refused naming)); branch = search rules; missed = search rules; few = search rules; front = c.right_reads.ensures.front; counted = c.right_reads.ensures.counted; same = search rules }
+
+pub right_reads-tag-tag-requires : goal.right_reads-tag-tag-requires
+right_reads-tag-tag-requires g t c = grind (arith, common_steps)
+
+pub right_reads-sight-requires : goal.right_reads-sight-requires
+right_reads-sight-requires g t c = grind (arith, elements)
+
+pub right_reads-mate-mate-requires-clause-spot : goal.right_reads-mate-mate-requires-clause-spot
+right_reads-mate-mate-requires-clause-spot g t c = grind (arith, elements)
+
+pub right_reads-right-at-requires-in-Push : goal.right_reads-right-at-requires-in-Push
+right_reads-right-at-requires-in-Push g t c = grind (arith, elements)
+
+pub right_reads-tag-requires : goal.right_reads-tag-requires
+right_reads-tag-requires g t c = grind (arith, elements)
+
+pub right_reads-loop-mark-smaller-in-Found : goal.right_reads-loop-mark-smaller-in-Found
+right_reads-loop-mark-smaller-in-Found g t c = grind (arith, elements)
+
+pub right_reads-loop-mark-smaller-in-Missed : goal.right_reads-loop-mark-smaller-in-Missed
+right_reads-loop-mark-smaller-in-Missed g t c = grind (arith, elements)
+
+pub right_reads-right-at-requires-in-Module : goal.right_reads-right-at-requires-in-Module
+right_reads-right-at-requires-in-Module g t c = grind (arith, elements)
+
+pub right_reads-loop-mark-smaller-in-Passed : goal.right_reads-loop-mark-smaller-in-Passed
+right_reads-loop-mark-smaller-in-Passed g t c = grind (arith, common_steps)
+
+pub right_reads-overflow_add-next : goal.right_reads-overflow_add-next
+right_reads-overflow_add-next g t c = grind (arith, elements)
+
+pub right_reads-loop-mark-smaller : goal.right_reads-loop-mark-smaller
+right_reads-loop-mark-smaller g t c = grind (arith, common_steps)

@@ -1,4 +1,5 @@
-use Rattle.std.proofs.Common.{ap, sym, ◌∙◌}
+use Rattle.std.proofs.Common.{arith, ap, sym, ◌∙◌}
+use Rattle.std.proofs.lemmas.Grind.{common_steps}
 use Rattle.lsys_words.proofs.Spelling.{after_first, after_second, firstly, secondly, lastly, both}
 use Rattle.lsys_words.proofs.setting.spelled.Goals as goal
 
@@ -21,3 +22,6 @@ returns-else-is_empty-3 c =
     lastly c.in_ok-first.first c.in_ok-second.second c.in_ok-second.words.now c.if-is_empty-3.ensures
     ∙ sym (ap (after_second c.in_ok-first.first) c.in_ok-second.ensures) ∙ secondly c.in_ok-first.first c.in_ok-first.words.now c.if-is_empty-2.ensures
     ∙ sym (ap after_first c.in_ok-first.ensures) ∙ firstly c.args.words.now c.if-is_empty.ensures
+
+pub returns-then-is_empty-2 : goal.returns-then-is_empty-2
+returns-then-is_empty-2 c = grind (arith, common_steps)

@@ -1,4 +1,5 @@
-use Rattle.std.proofs.Common.{◌≡◌, [], ◌<◌, ◌+◌, Ok, Err, map, length, drop, refl, ap, sym, ◌∙◌, rules, subst}
+use Rattle.std.proofs.Common.{arith, ◌≡◌, [], ◌<◌, ◌+◌, Ok, Err, map, length, drop, refl, ap, sym, ◌∙◌, rules, subst}
+use Rattle.std.proofs.lemmas.Grind.{common_steps, elements}
 use Rattle.lsys_bodies.specs.Views.{homomorphism_of}
 use Rattle.lsys_level.specs.Spots.{spots_at, with_lineage}
 use Rattle.lsys_level.specs.Views.{seen_of}
@@ -49,3 +50,12 @@ returns-in-Ok g c =
     ∙ ap (λ r. with_part part (coming_from hs c.modules_behind-modules.result (i.symbols + c.len.result) (bare_level r))) (sym rest) in
     let fewer = subst (λ n. length (drop (p + 1) x) < n) (sym left) (left_passed x p v c.sight-sight.ensures.seen) in
     (was ∙ is ∙ counted, subst (λ r. length r < c.args.self.now.left) (sym rest) fewer, sound)
+
+pub modules_behind-modules-requires : goal.modules_behind-modules-requires
+modules_behind-modules-requires g c = grind (arith, elements)
+
+pub part_of-requires-clause-modules : goal.part_of-requires-clause-modules
+part_of-requires-clause-modules g c = grind (arith, common_steps)
+
+pub invariant_of-self : goal.invariant_of-self
+invariant_of-self g c = grind (arith, common_steps)

@@ -1,4 +1,5 @@
-use Rattle.std.proofs.Common.{rules, ◌+◌, ◌++◌, ◌∷◌, [], true, IsTrue, get_or, ap, sym, ◌∙◌, subst}
+use Rattle.std.proofs.Common.{arith, rules, ◌+◌, ◌++◌, ◌∷◌, [], true, IsTrue, get_or, ap, sym, ◌∙◌, subst}
+use Rattle.std.proofs.lemmas.Grind.{common_steps}
 use Rattle.lsys_spec.specs.Output.{IsFront}
 use Rattle.lsys_walks.specs.Views.{noted_of, decoded}
 use Rattle.lsys_walks.specs.Readings.{trace_so_far}
@@ -40,3 +41,6 @@ returns-clause-exact c = (
       subst (λ old. IsFront (c.args.self.now.read ++ (noted_of c.args.entry.now c.args.params.now) ∷ []) old) (sym (old_is c.self.inside.entries.now c.self.inside.values.now c.self.inside.place c.self.inside.kept c.self.inside.own c.self.inside.agrees c.args.self.now c.self.view_is c.if-not-self.false)) g,
   λ f. λ i. true,
 )
+
+pub returns-then-not-self-clause-exact : goal.returns-then-not-self-clause-exact
+returns-then-not-self-clause-exact c = grind (arith, common_steps)
