@@ -27,14 +27,20 @@ fn texts() -> &'static [(TextRefusal, &'static str)] {
 
 fn places() -> &'static [(PlaceRefusal, &'static str)] {
     &[
-        (PlaceRefusal::Token { place: 3 }, "no sentence goes on with token 3"),
+        (
+            PlaceRefusal::Token { place: 3 },
+            "no sentence goes on with token 3",
+        ),
         (PlaceRefusal::Deep { place: 40 }, "token 40 nests too deep"),
     ]
 }
 
 fn strings() -> &'static [(StringRefusal, &'static str)] {
     &[
-        (StringRefusal::TooMany { column: 26 }, "column 26 begins one too many"),
+        (
+            StringRefusal::TooMany { column: 26 },
+            "column 26 begins one too many",
+        ),
         (StringRefusal::Memory, "out of memory"),
     ]
 }

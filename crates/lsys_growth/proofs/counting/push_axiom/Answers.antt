@@ -1,4 +1,5 @@
 use Rattle.std.proofs.Common.{◌+◌, map, subst, sym, arith}
+use Rattle.std.proofs.lemmas.Grind.{elements}
 use Rattle.lsys_module.specs.Views.{module_name, string_of}
 use Rattle.lsys_growth.proofs.Counts.{CountsTo, next_count}
 use Rattle.lsys_growth.proofs.counting.push_axiom.Goals as goal
@@ -9,3 +10,6 @@ loop-place-preserved c =
     let xs = string_of c.args.symbols.now in
     let n = next_count ns xs c.loop-place.place c.times_in_axiom-times.result _ c.args.entries.now.items c.loop-place.entries.items (omega arith) c.letter_at.ensures c.times_in_axiom-times.ensures c.loop-place.invariant in
     subst (CountsTo ns xs (c.loop-place.place + 1) c.args.entries.now.items) (sym c.in_ok-push.ensures.items) n
+
+pub returns : goal.returns
+returns c = grind (arith, elements)

@@ -1,5 +1,6 @@
-use Rattle.std.proofs.Common.{◌≡◌, List, ℕ, true, map, sym, subst, ◌∙◌}
+use Rattle.std.proofs.Common.{arith, ◌≡◌, List, ℕ, true, map, sym, subst, ◌∙◌}
 use Rattle.std.specs.Prelude.{Option, Some}
+use Rattle.std.proofs.lemmas.Grind.{elements}
 use Rattle.lsys_module.specs.Views.{module_name}
 use Rattle.lsys_matrix.specs.Matrices.{place}
 use Rattle.lsys_matrix.specs.Growth.{in_class}
@@ -34,3 +35,6 @@ returns-clause-answer g c =
     subst (λ (l : List (List ℕ)). IsCensus (map module_name l) (place row) c.in_ok-growth.field-0) c.deref-2.ensures.value
     (subst (λ (r : List (Option ℕ)). IsCensus (map module_name c.deref-2.result.now) (place r) c.in_ok-growth.field-0) c.deref-3.ensures.value c.in_ok-growth.ensures) in
     told_some s c.args.level ls row c.is_in_class.ensures.well class found.0 found.1 there ∙ subst (IsCensus (map module_name ls) (place row)) c.in-None.is told
+
+pub census-requires : goal.census-requires
+census-requires g c = grind (arith, elements)

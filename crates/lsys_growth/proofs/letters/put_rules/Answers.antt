@@ -1,4 +1,5 @@
-use Rattle.std.proofs.Common.{true}
+use Rattle.std.proofs.Common.{arith, true}
+use Rattle.std.proofs.lemmas.Grind.{common_steps}
 use Rattle.lsys_bodies.specs.Views.{rule_of}
 use Rattle.lsys_matrix.specs.Growth.{rule_names}
 use Rattle.lsys_growth.specs.Letters.{letters_in, HasPut}
@@ -18,3 +19,6 @@ loop-rule-preserved c =
       rest = rules_on (letters_in c.args.letters.now) (letters_in c.loop-rule.letters) (letters_in c.put_rule.new.letters) c.args.rules.now c.loop-rule.rule-index c.rule-item.result c.loop-rule-test.true c.rule-item.is c.loop-rule.invariant.rest put.0;
       few = few c.put_rule.new.letters.items put.1;
     }
+
+pub returns : goal.returns
+returns c = grind (arith, common_steps)

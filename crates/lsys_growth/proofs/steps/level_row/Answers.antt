@@ -1,4 +1,5 @@
-use Rattle.std.proofs.Common.{◌≡◌, ◌<◌, ℕ, map, ap, subst, length, ◌/◌, ◌%◌}
+use Rattle.std.proofs.Common.{arith, ◌≡◌, ◌<◌, ℕ, map, ap, subst, length, ◌/◌, ◌%◌}
+use Rattle.std.proofs.lemmas.Grind.{elements}
 use Rattle.lsys_module.specs.Views.{module_name}
 use Rattle.lsys_matrix.specs.Counts.{first_counts}
 use Rattle.lsys_growth.specs.Steps.{IsLevelRow, AfterSteps, AfterTurns}
@@ -22,3 +23,6 @@ returns-clause-row g c =
     if_ok (λ r. AfterSteps s ns (c.args.level % n) row r.items) (λ r. IsLevelRow s ns c.args.level r.items) c.after_steps.result
     (λ r h. level_row s ns c.args.level first row r.items some c.in_ok-first.ensures turns (subst (λ (m : ℕ). AfterSteps s ns (c.args.level % m) row r.items) words h))
     c.after_steps.ensures
+
+pub overflow_cast-level : goal.overflow_cast-level
+overflow_cast-level g c = grind (arith, elements)

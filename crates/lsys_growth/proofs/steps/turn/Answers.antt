@@ -1,4 +1,5 @@
 use Rattle.std.proofs.Common.{map, ◌∙◌, arith}
+use Rattle.std.proofs.lemmas.Grind.{common_steps}
 use Rattle.lsys_module.specs.Views.{module_name}
 use Rattle.lsys_matrix.specs.Counts.{step_matrix}
 use Rattle.lsys_growth.specs.Steps.{width}
@@ -16,3 +17,6 @@ loop-level-preserved g c =
       size = c.in_ok-turn-2.ensures.product.size ∙ i.size;
       count = (let k = i.count in omega (arith, k, n));
     }
+
+pub returns-clause-count : goal.returns-clause-count
+returns-clause-count g c = grind (arith, common_steps)

@@ -1,5 +1,6 @@
-use Rattle.std.proofs.Common.{◌≡◌, Ok, ap, subst, sym, ◌∙◌, rules}
+use Rattle.std.proofs.Common.{arith, ◌≡◌, Ok, ap, subst, sym, ◌∙◌, rules}
 use Rattle.std.specs.Prelude.{flat_map}
+use Rattle.std.proofs.lemmas.Grind.{common_steps}
 use Rattle.lsys_spec.specs.PictureTexts.{segment_line}
 use Rattle.lsys_turtle.specs.Ways.{segment_of}
 use Rattle.lsys_out.specs.Drawings.{Drawing, IsNextSegment, drawing, empty_drawing, last_drawing, with_first}
@@ -51,3 +52,6 @@ returns-in-Ok-None-clause-put g c =
     let next = drawing l c.next.new.self c.next.new.turtle.turtle in
     let none : now ≡ empty_drawing = subst (λ o. IsNextSegment now next (Ok o)) c.in-Ok-None.field-0-is c.in-Ok-None.ensures.next in
     rests_none (rests_same (ap (λ (d : Drawing). flat_map segment_line d.segments) none) c.segments.invariant.rests)
+
+pub segments-smaller : goal.segments-smaller
+segments-smaller g c = grind (arith, common_steps)

@@ -1,5 +1,6 @@
-use Rattle.std.proofs.Common.{◌≡◌, ◌++◌, Ok, ap, codes, subst, sym, ◌∙◌, rules}
+use Rattle.std.proofs.Common.{arith, ◌≡◌, ◌++◌, Ok, ap, codes, subst, sym, ◌∙◌, rules}
 use Rattle.std.specs.Prelude.{flat_map}
+use Rattle.std.proofs.lemmas.Grind.{common_steps}
 use Rattle.lsys_turtle.specs.Ways.{segment_of}
 use Rattle.lsys_out.specs.Boxes.{box_of}
 use Rattle.lsys_out.specs.Drawings.{Drawing, IsNextSegment, drawing, last_drawing, with_first}
@@ -47,3 +48,9 @@ segments-preserved g c =
       can_go = search rules;
       room = search rules;
     }
+
+pub segments-smaller : goal.segments-smaller
+segments-smaller g c = grind (arith, common_steps)
+
+pub returns-in-Ok-None-clause-put : goal.returns-in-Ok-None-clause-put
+returns-in-Ok-None-clause-put g c = grind (arith, common_steps)
