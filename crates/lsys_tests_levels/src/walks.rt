@@ -1,5 +1,5 @@
 //! Walks of contexts over levels as vectors: what they read, and how they end.
-ghost use Rattle.std.specs.Prelude.{◌≡◌, ◌<◌, ◌+◌, ◌≤◌, length, true, false, IfOk, IfSome, OnOk, IsTrue};
+ghost use Rattle.std.specs.Prelude.{◌≡◌, ◌<◌, ◌+◌, ◌≤◌, length, true, false, IfSome, IsTrue};
 ghost use Rattle.lsys_syntax.specs.Strings.{balanced};
 ghost use Rattle.lsys_text.specs.Texts.{IsNameBytes, is_name_mark};
 ghost use Rattle.lsys_module.specs.Views.{string_of};
@@ -7,18 +7,19 @@ ghost use Rattle.lsys_level.specs.Places.{has_cut};
 ghost use Rattle.lsys_tests_levels.specs.Walks.{IsSpotIn};
 
 use crate::levels::{contexts_that_skip, letter, push};
-use crate::same::{is_same, is_same_at};
+use crate::same::{is_row, is_row_at};
 use lsys_bodies::{Filter, Item, Pattern};
 use lsys_level::{FlatLevels, LevelView};
 use lsys_module::{Module, Params, Symbol};
 use lsys_reading::ListKind;
 use lsys_text::Name;
-use lsys_walks::{Counter, EntryKind, Mark, Reading, Trace, Walked, left_reads, right_reads};
+use lsys_walks::{
+    Counter, Entry, EntryKind, Mark, Reading, Trace, Walked, left_reads, right_reads,
+};
 use std::alloc::{AllocError, Global};
 use std::marker::Brand;
 use std::process::Abort;
 use std::sync::ledger::{Blank, Ledger};
-use std::test::Fail;
 
 const FOUND: u32 = 0;
 
@@ -97,32 +98,33 @@ fn two_branches() -> [Symbol; 8]
 }
 
 /// Adds a module without parameters to a balanced row.
-fn add_letter(symbols: &mut Vec<Symbol>, text: &[u8]) -> Result<(), AllocError>
+fn add_letter(rt: &impl Abort, symbols: &mut Vec<Symbol>, text: &[u8])
     requires text { IsNameBytes text.now }
     requires balance { balanced 0 (string_of symbols.old.items) ≡ true }
     requires whole { has_cut symbols.old.items ≡ false }
-    ensures balance { OnOk result (balanced 0 (string_of symbols.new.items) ≡ true) }
-    ensures whole { OnOk result (has_cut symbols.new.items ≡ false) }
-    ensures longer { OnOk result (length symbols.new.items ≡ length symbols.old.items + 1) }
+    ensures balance { balanced 0 (string_of symbols.new.items) ≡ true }
+    ensures whole { has_cut symbols.new.items ≡ false }
+    ensures longer { length symbols.new.items ≡ length symbols.old.items + 1 }
 {
-    symbols.push(Symbol::Module(letter(text)))?;
-    Ok(())
+    symbols
+        .push(Symbol::Module(letter(text)))
+        .expect(rt, "memory");
 }
 
 /// `A`, so many times `B`, and `C`
-fn far_apart(alloc: Global, between: usize) -> Result<Vec<Symbol>, AllocError>
+fn far_apart(rt: &impl Abort, alloc: Global, between: usize) -> Vec<Symbol>
     requires { between ≤ 1024 }
-    ensures balance { IfOk result (λ v. balanced 0 (string_of v.items) ≡ true) }
-    ensures whole { IfOk result (λ v. has_cut v.items ≡ false) }
-    ensures few { IfOk result (λ v. length v.items ≡ between + 2) }
+    ensures balance { balanced 0 (string_of result.items) ≡ true }
+    ensures whole { has_cut result.items ≡ false }
+    ensures few { length result.items ≡ between + 2 }
 {
     let mut symbols = Vec::new(alloc);
-    add_letter(&mut symbols, b"A")?;
+    add_letter(rt, &mut symbols, b"A");
     for _letter in 0..between {
-        add_letter(&mut symbols, b"B")?;
+        add_letter(rt, &mut symbols, b"B");
     }
-    add_letter(&mut symbols, b"C")?;
-    Ok(symbols)
+    add_letter(rt, &mut symbols, b"C");
+    symbols
 }
 
 /// The spot at a place of the first level.
@@ -138,26 +140,38 @@ fn spot_at<W: LevelView>(view: &W, place: usize) -> Option<W::Spot>
 }
 
 /// How a walk ended, and then the kind, the depth and the two tags of each entry.
-fn told(alloc: Global, walked: Walked, trace: &Trace) -> Result<Vec<u32>, AllocError> {
+fn told(rt: &impl Abort, alloc: Global, walked: Walked, entries: &[Entry]) -> Vec<u32> {
     let mut told = Vec::new(alloc);
-    told.push(match walked {
+    told.push(end_of(walked)).expect(rt, "memory");
+    for entry in entries {
+        let parts = [
+            kind_of(entry.kind),
+            u32::from(entry.depth),
+            entry.tag.0,
+            entry.mate.0,
+        ];
+        told.extend_from_slice(&parts).expect(rt, "memory");
+    }
+    told
+}
+
+/// How a walk ended, as a number.
+fn end_of(walked: Walked) -> u32 {
+    match walked {
         Walked::Found => FOUND,
         Walked::Missed => MISSED,
         Walked::TooFar => TOO_FAR,
-    })?;
-    let (entries, _) = trace.parts();
-    for entry in entries {
-        told.push(match entry.kind {
-            EntryKind::Compared => COMPARED,
-            EntryKind::Ignored => IGNORED,
-            EntryKind::Out => OUT,
-            EntryKind::Branch => BRANCH,
-        })?;
-        told.push(u32::from(entry.depth))?;
-        told.push(entry.tag.0)?;
-        told.push(entry.mate.0)?;
     }
-    Ok(told)
+}
+
+/// The kind of an entry, as a number.
+fn kind_of(kind: EntryKind) -> u32 {
+    match kind {
+        EntryKind::Compared => COMPARED,
+        EntryKind::Ignored => IGNORED,
+        EntryKind::Out => OUT,
+        EntryKind::Branch => BRANCH,
+    }
 }
 
 /// The filter that passes over these names alone.
@@ -178,21 +192,20 @@ fn considering(names: &[Name]) -> Filter<'_> {
 
 /// What the left walk from a place reads.
 fn left<V: Ledger>(
+    rt: &impl Abort,
     alloc: Global,
     levels: &FlatLevels,
     place: usize,
     filter: Filter<'_>,
     patterns: &[Pattern],
     visited: Blank,
-) -> Result<Vec<u32>, AllocError>
+) -> Vec<u32>
     requires level { 0 < length levels.now }
     requires name { visited.name ≡ V.name }
     requires parts { visited.parts ≡ V.parts }
     requires some { 0 < visited.parts }
 {
-    let Some(spot) = spot_at(levels, place) else {
-        return Err(AllocError);
-    };
+    let spot = spot_at(levels, place).expect(rt, "a place");
     let mut visited = Counter::<V>::open(visited);
     let old = Trace::new(alloc);
     let mut trace = Reading::beside(&old, alloc);
@@ -207,28 +220,27 @@ fn left<V: Ledger>(
         &mut trace,
         &mut bound,
         &mut visited,
-    )?;
-    told(alloc, walked, &trace.finish()?)
+    );
+    finished(rt, alloc, walked, trace)
 }
 
 /// What the right walk from a place reads.
 fn right<V: Ledger>(
+    rt: &impl Abort,
     alloc: Global,
     levels: &FlatLevels,
     place: usize,
     filter: Filter<'_>,
     items: &[Item],
     visited: Blank,
-) -> Result<Vec<u32>, AllocError>
+) -> Vec<u32>
     requires level { 0 < length levels.now }
     requires few { length items.now ≤ 16 }
     requires name { visited.name ≡ V.name }
     requires parts { visited.parts ≡ V.parts }
     requires some { 0 < visited.parts }
 {
-    let Some(spot) = spot_at(levels, place) else {
-        return Err(AllocError);
-    };
+    let spot = spot_at(levels, place).expect(rt, "a place");
     let mut visited = Counter::<V>::open(visited);
     let old = Trace::new(alloc);
     let mut trace = Reading::beside(&old, alloc);
@@ -244,65 +256,80 @@ fn right<V: Ledger>(
         &mut trace,
         &mut bound,
         &mut visited,
-    )?;
-    told(alloc, walked, &trace.finish()?)
+    );
+    finished(rt, alloc, walked, trace)
+}
+
+/// What a walk read that ended so.
+fn finished(
+    rt: &impl Abort,
+    alloc: Global,
+    walked: Result<Walked, AllocError>,
+    trace: Reading<'_>,
+) -> Vec<u32> {
+    let walked = walked.expect(rt, "memory");
+    let trace = trace.finish().expect(rt, "memory");
+    let (entries, _) = trace.parts();
+    told(rt, alloc, walked, entries)
 }
 
 /// What the left walk reads from a place of a level of these symbols, whose tags are their places.
 fn read_left(
+    rt: &impl Abort,
     alloc: Global,
     symbols: &[Symbol],
     place: usize,
     filter: Filter<'_>,
     patterns: &[Pattern],
-) -> Result<Vec<u32>, AllocError>
+) -> Vec<u32>
     requires balance { balanced 0 (string_of symbols.now) ≡ true }
     requires whole { has_cut symbols.now ≡ false }
     requires few { length symbols.now ≤ 2000 }
 {
     let mut levels = FlatLevels::new(alloc);
-    push(&mut levels, alloc, symbols, 0)?;
-    left::<Brand>(alloc, &levels, place, filter, patterns, Blank::new(1))
+    push(rt, alloc, &mut levels, symbols, 0);
+    left::<Brand>(rt, alloc, &levels, place, filter, patterns, Blank::new(1))
 }
 
 /// What the right walk reads from a place of a level of these symbols, whose tags are their places.
 fn read_right(
+    rt: &impl Abort,
     alloc: Global,
     symbols: &[Symbol],
     place: usize,
     filter: Filter<'_>,
     items: &[Item],
-) -> Result<Vec<u32>, AllocError>
+) -> Vec<u32>
     requires balance { balanced 0 (string_of symbols.now) ≡ true }
     requires whole { has_cut symbols.now ≡ false }
     requires few { length symbols.now ≤ 2000 }
     requires items { length items.now ≤ 16 }
 {
     let mut levels = FlatLevels::new(alloc);
-    push(&mut levels, alloc, symbols, 0)?;
-    right::<Brand>(alloc, &levels, place, filter, items, Blank::new(1))
+    push(rt, alloc, &mut levels, symbols, 0);
+    right::<Brand>(rt, alloc, &levels, place, filter, items, Blank::new(1))
 }
 
 /// `BC < S > G[H]M` at the `S` of `ABC[DE][SG[HI[JK]L]MNO]`
 #[test]
-fn contexts_skip_branches(rt: HostRuntime) -> Result<(), Fail> {
-    skips_on_the_left(&rt, rt.alloc())?;
-    skips_on_the_right(&rt, rt.alloc())
+fn contexts_skip_branches(rt: HostRuntime) {
+    skips_on_the_left(&rt, rt.alloc());
+    skips_on_the_right(&rt, rt.alloc());
 }
 
 /// `BC < S` there
-fn skips_on_the_left(rt: &impl Abort, alloc: Global) -> Result<(), Fail> {
+fn skips_on_the_left(rt: &impl Abort, alloc: Global) {
     let patterns = [pattern(alloc, b"B"), pattern(alloc, b"C")];
-    let read = read_left(alloc, &contexts_that_skip(), 8, ignoring(&[]), &patterns)?;
+    let symbols = contexts_that_skip();
+    let read = read_left(rt, alloc, &symbols, 8, ignoring(&[]), &patterns);
     let want = [
         FOUND, OUT, 0, 7, 0, BRANCH, 0, 3, 6, COMPARED, 0, 2, 0, COMPARED, 0, 1, 0,
     ];
-    is_same(rt, &read.as_slice(), &want.as_slice());
-    Ok(())
+    is_row(rt, read.as_slice(), &want);
 }
 
 /// `S > G[H]M` there
-fn skips_on_the_right(rt: &impl Abort, alloc: Global) -> Result<(), Fail> {
+fn skips_on_the_right(rt: &impl Abort, alloc: Global) {
     let items = [
         Item::Pattern(pattern(alloc, b"G")),
         Item::Push,
@@ -310,47 +337,47 @@ fn skips_on_the_right(rt: &impl Abort, alloc: Global) -> Result<(), Fail> {
         Item::Pop,
         Item::Pattern(pattern(alloc, b"M")),
     ];
-    let read = read_right(alloc, &contexts_that_skip(), 8, ignoring(&[]), &items)?;
+    let symbols = contexts_that_skip();
+    let read = read_right(rt, alloc, &symbols, 8, ignoring(&[]), &items);
     let want = [
         FOUND, COMPARED, 0, 9, 0, BRANCH, 0, 10, 18, COMPARED, 1, 11, 0, COMPARED, 0, 19, 0,
     ];
-    is_same(rt, &read.as_slice(), &want.as_slice());
-    Ok(())
+    is_row(rt, read.as_slice(), &want);
 }
 
 /// `F_b <` at the `F_a` of a level, where `+` and `-` are ignored, or where only `F_a` and `F_b` are considered: the first two
 /// are reached, the next two are not.
 #[test]
-fn a_signal_is_read_past_ignored_modules(rt: HostRuntime) -> Result<(), Fail> {
+fn a_signal_is_read_past_ignored_modules(rt: HostRuntime) {
     let alloc = rt.alloc();
-    let symbols = signal();
+    let out = [FOUND, IGNORED, 0, 2, 0, OUT, 0, 1, 0, COMPARED, 0, 0, 0];
+    is_read_at(&rt, alloc, 3, &out);
+    let passed = [FOUND, BRANCH, 0, 1, 4, COMPARED, 0, 0, 0];
+    is_read_at(&rt, alloc, 5, &passed);
+    let out = [MISSED, IGNORED, 0, 7, 0, OUT, 0, 6, 0, COMPARED, 0, 5, 0];
+    is_read_at(&rt, alloc, 8, &out);
+    let passed = [MISSED, BRANCH, 0, 6, 9, COMPARED, 0, 5, 0];
+    is_read_at(&rt, alloc, 10, &passed);
+}
+
+/// This is read at a place of the signal, by either filter.
+fn is_read_at(rt: &impl Abort, alloc: Global, place: usize, want: &[u32]) {
     let ignored = [Name::from_mark(b'+'), Name::from_mark(b'-')];
+    is_read_by(rt, alloc, place, ignoring(&ignored), want);
     let considered = [Name::from_text(b"F_a"), Name::from_text(b"F_b")];
+    is_read_by(rt, alloc, place, considering(&considered), want);
+}
+
+/// This is read at a place of the signal, by this filter.
+fn is_read_by(rt: &impl Abort, alloc: Global, place: usize, filter: Filter<'_>, want: &[u32]) {
     let patterns = [pattern(alloc, b"F_b")];
-    let rows = [
-        (
-            3,
-            [FOUND, IGNORED, 0, 2, 0, OUT, 0, 1, 0, COMPARED, 0, 0, 0].as_slice(),
-        ),
-        (5, [FOUND, BRANCH, 0, 1, 4, COMPARED, 0, 0, 0].as_slice()),
-        (
-            8,
-            [MISSED, IGNORED, 0, 7, 0, OUT, 0, 6, 0, COMPARED, 0, 5, 0].as_slice(),
-        ),
-        (10, [MISSED, BRANCH, 0, 6, 9, COMPARED, 0, 5, 0].as_slice()),
-    ];
-    for (place, want) in &rows {
-        for filter in [ignoring(&ignored), considering(&considered)] {
-            let read = read_left(alloc, &symbols, *place, filter, &patterns)?;
-            assert_eq!(rt; read.as_slice(), *want, "at {place}");
-        }
-    }
-    Ok(())
+    let read = read_left(rt, alloc, &signal(), place, filter, &patterns);
+    is_row_at(rt, read.as_slice(), want, place);
 }
 
 /// `S > [B]C` at the `S` of `S[A][B]C`
 #[test]
-fn a_second_branch_is_tried(rt: HostRuntime) -> Result<(), Fail> {
+fn a_second_branch_is_tried(rt: HostRuntime) {
     let alloc = rt.alloc();
     let items = [
         Item::Push,
@@ -358,26 +385,29 @@ fn a_second_branch_is_tried(rt: HostRuntime) -> Result<(), Fail> {
         Item::Pop,
         Item::Pattern(pattern(alloc, b"C")),
     ];
-    let read = read_right(alloc, &two_branches(), 0, ignoring(&[]), &items)?;
+    let read = read_right(&rt, alloc, &two_branches(), 0, ignoring(&[]), &items);
     let want = [
         FOUND, BRANCH, 0, 1, 3, COMPARED, 1, 2, 0, BRANCH, 0, 4, 6, COMPARED, 1, 5, 0, COMPARED, 0,
         7, 0,
     ];
-    is_same(&rt, &read.as_slice(), &want.as_slice());
-    Ok(())
+    is_row(&rt, read.as_slice(), &want);
 }
 
 /// `A > C` where `B` is ignored: the 1,024th entry matches, and the 1,025th would.
 #[test]
-fn the_1025th_entry_is_too_far(rt: HostRuntime) -> Result<(), Fail> {
-    let alloc = rt.alloc();
+fn the_1025th_entry_is_too_far(rt: HostRuntime) {
+    is_read_behind(&rt, rt.alloc(), 1023, FOUND, 1 + 4 * 1024);
+    is_read_behind(&rt, rt.alloc(), 1024, TOO_FAR, 1 + 4 * 1025);
+}
+
+/// A walk past so many modules ends so, and as much is told of it.
+fn is_read_behind(rt: &impl Abort, alloc: Global, between: usize, end: u32, count: usize)
+    requires { between ≤ 1024 }
+{
     let ignored = [Name::from_text(b"B")];
     let items = [Item::Pattern(pattern(alloc, b"C"))];
-    for (between, end, entries) in [(1023, FOUND, 1024), (1024, TOO_FAR, 1025)] {
-        let symbols = far_apart(alloc, between)?;
-        let read = read_right(alloc, &symbols, 0, ignoring(&ignored), &items)?;
-        is_same_at(&rt, &read.first().copied(), &Some(end), &between);
-        is_same_at(&rt, &read.len(), &(1 + 4 * entries), &between);
-    }
-    Ok(())
+    let symbols = far_apart(rt, alloc, between);
+    let read = read_right(rt, alloc, symbols.as_slice(), 0, ignoring(&ignored), &items);
+    is_row_at(rt, &[read.first().copied()], &[Some(end)], between);
+    is_row_at(rt, &[read.len()], &[count], between);
 }

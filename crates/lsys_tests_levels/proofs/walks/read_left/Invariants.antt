@@ -1,4 +1,4 @@
 use Rattle.lsys_tests_levels.proofs.walks.read_left.Given as goal
 
 abbrev pub ghosts-left : goal.ghosts-left
-ghosts-left a = record { name = a.visited.name; parts = a.visited.parts }
+ghosts-left g a = record { name = a.visited.name; parts = a.visited.parts }
