@@ -9,7 +9,8 @@ ghost use Rattle.lsys_level.specs.Places.{has_cut};
 use lsys_level::{LevelView, Sight};
 use lsys_module::{Module, Params, Symbol};
 use lsys_text::Name;
-use std::alloc::{AllocError, Global};
+use std::alloc::Global;
+use std::process::Abort;
 
 /// A module without parameters.
 pub(crate) fn letter(text: &[u8]) -> Module
@@ -56,27 +57,23 @@ pub(crate) fn contexts_that_skip() -> [Symbol; 23]
 
 /// The tags of a level from the left to the right, each behind it that of its mate (a module has its own); and then the
 /// tags from the right to the left.
-pub(crate) fn walk<W: LevelView>(
-    alloc: Global,
-    view: &W,
-    level: u32,
-) -> Result<Vec<u32>, AllocError>
+pub(crate) fn walk<W: LevelView>(rt: &impl Abort, alloc: Global, view: &W, level: u32) -> Vec<u32>
     requires { level < length (W.levels view.now) }
 {
     let mut read = Vec::new(alloc);
     let mut at = view.first(level);
     let mut last = None;
     while let Some(spot) = at {
-        read.push(view.tag(spot).0)?;
-        read.push(view.tag(mate_of(view, spot)).0)?;
+        let tags = [view.tag(spot).0, view.tag(mate_of(view, spot)).0];
+        read.extend_from_slice(&tags).expect(rt, "memory");
         last = Some(spot);
         at = view.right(spot);
     }
     while let Some(spot) = last {
-        read.push(view.tag(spot).0)?;
+        read.push(view.tag(spot).0).expect(rt, "memory");
         last = view.left(spot);
     }
-    Ok(read)
+    read
 }
 
 /// The mate of a bracket, or a module itself.

@@ -1,5 +1,5 @@
 //! A forest through its public calls.
-ghost use Rattle.std.specs.Prelude.{◌≡◌, ◌≢◌, ◌<◌, ◌≤◌, ◌+◌, ℕ, drop, length, None, true, false, IfOk, OnOk};
+ghost use Rattle.std.specs.Prelude.{◌≡◌, ◌≢◌, ◌<◌, ◌≤◌, ◌+◌, ℕ, drop, length, None, true, false};
 ghost use Rattle.lsys_syntax.specs.Strings.{balanced};
 ghost use Rattle.lsys_module.specs.Views.{string_of};
 ghost use Rattle.lsys_module.specs.declared.symbol.Symbol.TheVariants.{Cut};
@@ -9,13 +9,12 @@ ghost use Rattle.lsys_forest.specs.Rows.{complete_levels};
 ghost use Rattle.lsys_tests_forests.specs.Forests.{GivesKids, GrowsNode};
 
 use crate::forest_levels::{contexts_that_skip, walk};
-use crate::same::is_same;
+use crate::same::{is_row, is_true};
 use lsys_forest::{Forest, Kept, NodeId};
 use lsys_module::Symbol;
 use lsys_region::room;
-use std::alloc::{AllocError, Global};
+use std::alloc::Global;
 use std::process::Abort;
-use std::test::Fail;
 
 /// An answer that holds no runs.
 #[derive(Drop)]
@@ -37,81 +36,83 @@ impl Kept for Mark {
 
 /// Adds a node with this symbol, after making room for it.
 fn grow(
+    rt: &impl Abort,
     forest: &mut Forest<Mark>,
     parent: NodeId,
     count: u32,
     symbol: &Symbol,
-) -> Result<NodeId, AllocError>
+) -> NodeId
     requires parent { IsLive forest.old parent }
     requires whole { symbol.now ≢ Cut }
     requires few { live_nodes forest.old < 4000 }
-    ensures root { OnOk result (forest.new.root ≡ forest.old.root) }
-    ensures live { OnOk result (live_nodes forest.new ≤ live_nodes forest.old + 1) }
-    ensures fresh { IfOk result (λ k. now_of forest.old k ≡ None) }
-    ensures added { IfOk result (GrowsNode forest.old forest.new parent count (seen_in symbol.now)) }
+    ensures root { forest.new.root ≡ forest.old.root }
+    ensures live { live_nodes forest.new ≤ live_nodes forest.old + 1 }
+    ensures fresh { now_of forest.old result ≡ None }
+    ensures added { GrowsNode forest.old forest.new parent count (seen_in symbol.now) result }
 {
     let params = match symbol {
         Symbol::Module(module) => module.params.values().len(),
         _ => 0,
     };
-    forest.reserve(1, room(params), 0, 1)?;
-    Ok(forest.add(parent, 0, count, symbol, 0))
+    forest.reserve(1, room(params), 0, 1).expect(rt, "memory");
+    forest.add(parent, 0, count, symbol, 0)
 }
 
 /// Sets the children of a node, after making room for them.
-fn give(forest: &mut Forest<Mark>, node: NodeId, kids: &[NodeId]) -> Result<(), AllocError>
+fn give(rt: &impl Abort, forest: &mut Forest<Mark>, node: NodeId, kids: &[NodeId])
     requires lives { IsLive forest.old node }
     requires kids { AreKids (now_of forest.old) forest.old.root node kids.now }
     requires few { live_nodes forest.old < 4000 }
     requires short { length kids.now ≤ 4000 }
-    ensures root { OnOk result (forest.new.root ≡ forest.old.root) }
-    ensures live { OnOk result (live_nodes forest.new ≤ live_nodes forest.old) }
-    ensures set { OnOk result (GivesKids forest.old forest.new node kids.now) }
+    ensures root { forest.new.root ≡ forest.old.root }
+    ensures live { live_nodes forest.new ≤ live_nodes forest.old }
+    ensures set { GivesKids forest.old forest.new node kids.now }
 {
-    forest.reserve(0, 0, room(kids.len()), 1)?;
+    forest
+        .reserve(0, 0, room(kids.len()), 1)
+        .expect(rt, "memory");
     forest.set_children(node, kids);
-    Ok(())
 }
 
 /// A forest of two levels: the first has these symbols, and in the second each but the first of them has itself.
-fn two_levels(alloc: Global, symbols: &[Symbol]) -> Result<Forest<Mark>, AllocError>
+fn two_levels(rt: &impl Abort, alloc: Global, symbols: &[Symbol]) -> Forest<Mark>
     requires few { length symbols.now ≤ 1000 }
     requires some { 0 < length symbols.now }
     requires whole { has_cut symbols.now ≡ false }
     requires balance { balanced 0 (string_of symbols.now) ≡ true }
     requires rest { balanced 0 (string_of (drop 1 symbols.now)) ≡ true }
-    ensures { IfOk result (λ f. 2 ≤ length (complete_levels f)) }
+    ensures { 2 ≤ length (complete_levels result) }
 {
-    let mut forest = Forest::new(alloc)?;
+    let mut forest = Forest::new(alloc).expect(rt, "memory");
     let root = forest.root();
     let mut parents = Vec::new(alloc);
     for place in 0..symbols.len() {
-        parents.push(grow(&mut forest, root, place as u32, &symbols[place])?)?;
+        let node = grow(rt, &mut forest, root, place as u32, &symbols[place]);
+        parents.push(node).expect(rt, "memory");
     }
-    give(&mut forest, root, &parents)?;
+    give(rt, &mut forest, root, &parents);
     for at in 1..symbols.len() {
         let parent = parents[at];
-        let child = grow(&mut forest, parent, 0, &symbols[at])?;
-        give(&mut forest, parent, &[child])?;
+        let child = grow(rt, &mut forest, parent, 0, &symbols[at]);
+        give(rt, &mut forest, parent, &[child]);
     }
-    Ok(forest)
+    forest
 }
 
 #[test]
-fn a_root_keeps_an_answer(rt: HostRuntime) -> Result<(), Fail> {
-    let mut forest = Forest::<Mark>::new(rt.alloc())?;
+fn a_root_keeps_an_answer(rt: HostRuntime) {
+    let mut forest = Forest::<Mark>::new(rt.alloc()).expect(&rt, "memory");
     let root = forest.root();
-    forest.reserve(1, 0, 0, 2)?;
+    forest.reserve(1, 0, 0, 2).expect(&rt, "memory");
     forest.set_answer(root, Some(Mark(7)));
     has_an_answer_and_no_child(&rt, &forest);
-    Ok(())
 }
 
 /// The root keeps an answer, and has no child.
 fn has_an_answer_and_no_child(rt: &impl Abort, forest: &Forest<Mark>) {
     let root = forest.root();
-    assert!(rt; forest.answer(root).is_some());
-    is_same(rt, &forest.children(root).len(), &0);
+    is_true(rt, forest.answer(root).is_some());
+    is_row(rt, forest.children(root), &[]);
 }
 
 /// Each symbol of the first level of a forest, by the numbers of the nodes, behind it its mate; and then all from the right to
@@ -130,33 +131,25 @@ const SECOND: [u32; 66] = [
 ];
 
 #[test]
-fn contexts_that_skip_are_walked_both_ways(rt: HostRuntime) -> Result<(), Fail> {
-    let forest = two_levels(rt.alloc(), &contexts_that_skip())?;
-    is_walked(&rt, rt.alloc(), &forest, 0, &FIRST)?;
-    is_walked(&rt, rt.alloc(), &forest, 1, &SECOND)
+fn contexts_that_skip_are_walked_both_ways(rt: HostRuntime) {
+    let forest = two_levels(&rt, rt.alloc(), &contexts_that_skip());
+    is_walked(&rt, rt.alloc(), &forest, 0, &FIRST);
+    is_walked(&rt, rt.alloc(), &forest, 1, &SECOND);
 }
 
 /// These tags are read where a level of a forest is walked both ways.
-fn is_walked(
-    rt: &impl Abort,
-    alloc: Global,
-    forest: &Forest<Mark>,
-    level: u32,
-    want: &[u32],
-) -> Result<(), Fail>
+fn is_walked(rt: &impl Abort, alloc: Global, forest: &Forest<Mark>, level: u32, want: &[u32])
     requires { level < length (complete_levels forest.now) }
 {
-    let read = walk(alloc, forest, level)?;
-    is_same(rt, &read.as_slice(), &want);
-    Ok(())
+    is_row(rt, walk(rt, alloc, forest, level).as_slice(), want);
 }
 
 #[test]
-fn levels_that_are_linked_are_walked_as_others(rt: HostRuntime) -> Result<(), Fail> {
-    let mut forest = two_levels(rt.alloc(), &contexts_that_skip())?;
+fn levels_that_are_linked_are_walked_as_others(rt: HostRuntime) {
+    let mut forest = two_levels(&rt, rt.alloc(), &contexts_that_skip());
     forest.link(0);
-    is_walked(&rt, rt.alloc(), &forest, 1, &SECOND)?;
+    is_walked(&rt, rt.alloc(), &forest, 1, &SECOND);
     forest.link(1);
-    is_walked(&rt, rt.alloc(), &forest, 0, &FIRST)?;
-    is_walked(&rt, rt.alloc(), &forest, 1, &SECOND)
+    is_walked(&rt, rt.alloc(), &forest, 0, &FIRST);
+    is_walked(&rt, rt.alloc(), &forest, 1, &SECOND);
 }

@@ -8,18 +8,18 @@ use Rattle.lsys_tests_forests.specs.declared.forests.Mark.{Mark}
 use Rattle.lsys_tests_forests.proofs.forests.grow.Goals as goal
 
 pub add-requires-clause-parent : goal.add-requires-clause-parent
-add-requires-clause-parent c = subst (λ (m : Nodes Mark). IsSome (m c.args.parent)) (sym c.reserve.ensures.now) c.requires.parent
+add-requires-clause-parent g c = subst (λ (m : Nodes Mark). IsSome (m c.args.parent)) (sym c.reserve.ensures.now) c.requires.parent
 
 pub returns-clause-root : goal.returns-clause-root
-returns-clause-root c =
+returns-clause-root g c =
     let s = some_of (now_of c.args.forest.now c.args.parent) c.requires.parent in
     (c.add.ensures.added s.0 (ap (λ (m : Nodes Mark). m c.args.parent) c.reserve.ensures.now ∙ s.1)).root ∙ c.reserve.ensures.root
 
 pub returns-clause-fresh : goal.returns-clause-fresh
-returns-clause-fresh c = ap (λ (m : Nodes Mark). m c.add.result) (sym c.reserve.ensures.now) ∙ c.add.ensures.new
+returns-clause-fresh g c = ap (λ (m : Nodes Mark). m c.add.result) (sym c.reserve.ensures.now) ∙ c.add.ensures.new
 
 pub returns-clause-added : goal.returns-clause-added
-returns-clause-added c = λ p is.
+returns-clause-added g c = λ p is.
     let e = (c.add.ensures.added p (ap (λ (m : Nodes Mark). m c.args.parent) c.reserve.ensures.now ∙ is)).now in
     subst (λ (m : Nodes Mark). now_of c.add.new.self ≡ with_node m c.add.result (Some (record {
       parent = c.args.parent;

@@ -1,4 +1,4 @@
-use Rattle.std.proofs.Common.{◌≡◌, ◌+◌, ◌<◌, [], ◌∷◌, Some, length, take, refl, sym, ap, ◌∙◌, subst, arith}
+use Rattle.std.proofs.Common.{◌≡◌, ◌+◌, ◌<◌, [], ◌∷◌, ◌++◌, Some, length, take, refl, sym, ap, ◌∙◌, subst, arith, rules}
 use Rattle.std.specs.Prelude.{IsSome}
 use Rattle.std.proofs.lemmas.Option.{none-some}
 use Rattle.lsys_spec.specs.Rows.{AreApart}
@@ -10,35 +10,36 @@ use Rattle.lsys_tests_forests.specs.declared.forests.Mark.{Mark}
 use Rattle.lsys_tests_forests.proofs.Grown.{AreGrown, IsHalf, whole_at, take_next, take_long, take_whole, first_step, grown_long, grown_kids, half_start, half_step, turn_at, half_end, root_lives, lone_kid, both_complete}
 use Rattle.lsys_tests_forests.proofs.forests.two_levels.Goals as goal
 
-pub grow-requires-clause-whole : goal.grow-requires-clause-whole
-grow-requires-clause-whole c = whole_at c.args.symbols.now c.loop-place.place c.index-symbols-place.result c.requires.whole c.loop-place-test.true c.index-symbols-place.is
+pub grow-node-requires-clause-whole : goal.grow-node-requires-clause-whole
+grow-node-requires-clause-whole g c = whole_at c.args.symbols.now c.loop-place.place c.index-symbols-place.result c.requires.whole c.loop-place-test.true c.index-symbols-place.is
 
 pub loop-place-preserved : goal.loop-place-preserved
-loop-place-preserved c =
+loop-place-preserved g c =
     let was = c.loop-place.invariant in
     let root = c.root-root.result in
-    let e = c.in_ok-grow.ensures in
-    let k = c.in_ok-grow.field-0 in
+    let e = c.grow-node.ensures in
+    let k = c.grow-node.result in
     let top : Node Mark = root_node root in
     let added = e.added top was.alone in
-    let step = first_step (now_of c.loop-place.forest) (now_of c.grow.new.forest) root c.loop-place.parents.items c.args.symbols.now c.loop-place.place k c.index-symbols-place.result top _ was.grown was.apart c.loop-place-test.true c.index-symbols-place.is was.alone e.fresh refl refl refl added in
+    let items : c.push.new.self.items ≡ c.loop-place.parents.items ++ k ∷ [] = search rules in
+    let step = first_step (now_of c.loop-place.forest) (now_of c.grow-node.new.forest) root c.loop-place.parents.items c.args.symbols.now c.loop-place.place k c.index-symbols-place.result top _ was.grown was.apart c.loop-place-test.true c.index-symbols-place.is was.alone e.fresh refl refl refl added in
     record {
       root_is = e.root ∙ was.root_is;
       alone = step.2;
-      grown = subst (λ l. AreGrown (now_of c.grow.new.forest) root l (take (c.loop-place.place + 1) c.args.symbols.now)) (sym c.in_ok-push.ensures.items) step.0;
-      apart = subst AreApart (sym c.in_ok-push.ensures.items) step.1;
+      grown = subst (λ l. AreGrown (now_of c.grow-node.new.forest) root l (take (c.loop-place.place + 1) c.args.symbols.now)) (sym items) step.0;
+      apart = subst AreApart (sym items) step.1;
       few = omega (arith, e.live, was.few);
     }
 
 pub give-requires-clause-kids : goal.give-requires-clause-kids
-give-requires-clause-kids c =
+give-requires-clause-kids g c =
     let was = c.loop-place.invariant in
     let m = now_of c.loop-place.forest in
     subst (λ r. AreKids m r c.root-root.result c.deref.result.now) (sym was.root_is)
     (subst (AreKids m c.root-root.result c.root-root.result) (sym c.deref.ensures.value) (grown_kids m c.root-root.result c.loop-place.parents.items (take c.loop-place.place c.args.symbols.now) was.grown was.apart))
 
 pub give-requires-clause-short : goal.give-requires-clause-short
-give-requires-clause-short c =
+give-requires-clause-short g c =
     let was = c.loop-place.invariant in
     let long = grown_long (now_of c.loop-place.forest) c.root-root.result c.loop-place.parents.items (take c.loop-place.place c.args.symbols.now) was.grown in
     let all = ap length (take_whole c.args.symbols.now c.loop-place.place c.loop-place-test.false) in
@@ -46,13 +47,13 @@ give-requires-clause-short c =
     omega (arith, long, all, same, c.requires.few)
 
 pub loop-at-init : goal.loop-at-init
-loop-at-init c =
+loop-at-init g c =
     let was = c.loop-place.invariant in
     let root = c.root-root.result in
     let m = now_of c.loop-place.forest in
     let m' = now_of c.give.new.forest in
     let xs = c.args.symbols.now in
-    let e = c.in_ok-give.ensures in
+    let e = c.give.ensures in
     let all = take_whole xs c.loop-place.place c.loop-place-test.false in
     let grown = subst (AreGrown m root c.loop-place.parents.items) all was.grown in
     let top : Node Mark = root_node root in
@@ -65,10 +66,10 @@ loop-at-init c =
     }
 
 pub index-parent-requires : goal.index-parent-requires
-index-parent-requires c = omega (arith, c.loop-at.invariant.long, c.loop-at-test.true)
+index-parent-requires g c = omega (arith, c.loop-at.invariant.long, c.loop-at-test.true)
 
-pub grow-requires-in-loop-at-clause-parent : goal.grow-requires-in-loop-at-clause-parent
-grow-requires-in-loop-at-clause-parent c =
+pub grow-child-requires-clause-parent : goal.grow-child-requires-clause-parent
+grow-child-requires-clause-parent g c =
     let was = c.loop-at.invariant in
     let m = now_of c.loop-at.forest in
     let ks = c.loop-place.parents.items in
@@ -79,14 +80,14 @@ grow-requires-in-loop-at-clause-parent c =
     let t = turn_at m c.loop-at.forest.root ks xs at p was.half within c.index-parent.ensures in
     subst IsSome (sym t.is) refl
 
-pub grow-requires-in-loop-at-clause-whole : goal.grow-requires-in-loop-at-clause-whole
-grow-requires-in-loop-at-clause-whole c = whole_at c.args.symbols.now c.loop-at.at c.index-symbols-at.result c.requires.whole (omega (arith, c.loop-at-test.true)) c.index-symbols-at.is
+pub grow-child-requires-clause-whole : goal.grow-child-requires-clause-whole
+grow-child-requires-clause-whole g c = whole_at c.args.symbols.now c.loop-at.at c.index-symbols-at.result c.requires.whole (omega (arith, c.loop-at-test.true)) c.index-symbols-at.is
 
-pub grow-requires-in-loop-at-clause-few : goal.grow-requires-in-loop-at-clause-few
-grow-requires-in-loop-at-clause-few c = omega (arith, c.loop-at.invariant.few, c.requires.few, c.loop-at-test.true)
+pub grow-child-requires-clause-few : goal.grow-child-requires-clause-few
+grow-child-requires-clause-few g c = omega (arith, c.loop-at.invariant.few, c.requires.few, c.loop-at-test.true)
 
 pub give-requires-in-loop-at-clause-lives : goal.give-requires-in-loop-at-clause-lives
-give-requires-in-loop-at-clause-lives c =
+give-requires-in-loop-at-clause-lives g c =
     let was = c.loop-at.invariant in
     let m = now_of c.loop-at.forest in
     let ks = c.loop-place.parents.items in
@@ -95,14 +96,14 @@ give-requires-in-loop-at-clause-lives c =
     let p = c.index-parent.result.now in
     let within : at < length ks = omega (arith, was.long, c.loop-at-test.true) in
     let t = turn_at m c.loop-at.forest.root ks xs at p was.half within c.index-parent.ensures in
-    let e = c.in_ok-child.ensures in
-    let m1 = now_of c.grow-in-loop-at.new.forest in
+    let e = c.grow-child.ensures in
+    let m1 = now_of c.grow-child.new.forest in
     let added = e.added t.node t.is in
-    let stays : m1 p ≡ Some t.node = ap (λ (f : Nodes Mark). f p) added ∙ put_other m c.in_ok-child.child p _ (λ same. none-some t.node (sym e.fresh ∙ ap m (sym same) ∙ t.is)) ∙ t.is in
+    let stays : m1 p ≡ Some t.node = ap (λ (f : Nodes Mark). f p) added ∙ put_other m c.grow-child.result p _ (λ same. none-some t.node (sym e.fresh ∙ ap m (sym same) ∙ t.is)) ∙ t.is in
     subst IsSome (sym stays) refl
 
 pub give-requires-in-loop-at-clause-kids : goal.give-requires-in-loop-at-clause-kids
-give-requires-in-loop-at-clause-kids c =
+give-requires-in-loop-at-clause-kids g c =
     let was = c.loop-at.invariant in
     let m = now_of c.loop-at.forest in
     let ks = c.loop-place.parents.items in
@@ -111,15 +112,15 @@ give-requires-in-loop-at-clause-kids c =
     let p = c.index-parent.result.now in
     let within : at < length ks = omega (arith, was.long, c.loop-at-test.true) in
     let t = turn_at m c.loop-at.forest.root ks xs at p was.half within c.index-parent.ensures in
-    let e = c.in_ok-child.ensures in
-    let m1 = now_of c.grow-in-loop-at.new.forest in
-    subst (λ r. AreKids m1 r p (c.in_ok-child.child ∷ [])) (sym e.root) (lone_kid m m1 c.loop-at.forest.root p c.in_ok-child.child _ e.fresh (root_lives m c.loop-at.forest.root ks xs at was.half (omega (arith, within))) refl (e.added t.node t.is))
+    let e = c.grow-child.ensures in
+    let m1 = now_of c.grow-child.new.forest in
+    subst (λ r. AreKids m1 r p (c.grow-child.result ∷ [])) (sym e.root) (lone_kid m m1 c.loop-at.forest.root p c.grow-child.result _ e.fresh (root_lives m c.loop-at.forest.root ks xs at was.half (omega (arith, within))) refl (e.added t.node t.is))
 
 pub give-requires-in-loop-at-clause-few : goal.give-requires-in-loop-at-clause-few
-give-requires-in-loop-at-clause-few c = omega (arith, c.in_ok-child.ensures.live, c.loop-at.invariant.few, c.requires.few, c.loop-at-test.true)
+give-requires-in-loop-at-clause-few g c = omega (arith, c.grow-child.ensures.live, c.loop-at.invariant.few, c.requires.few, c.loop-at-test.true)
 
 pub loop-at-preserved : goal.loop-at-preserved
-loop-at-preserved c =
+loop-at-preserved g c =
     let was = c.loop-at.invariant in
     let m = now_of c.loop-at.forest in
     let ks = c.loop-place.parents.items in
@@ -128,16 +129,16 @@ loop-at-preserved c =
     let p = c.index-parent.result.now in
     let within : at < length ks = omega (arith, was.long, c.loop-at-test.true) in
     let t = turn_at m c.loop-at.forest.root ks xs at p was.half within c.index-parent.ensures in
-    let e = c.in_ok-child.ensures in
-    let m1 = now_of c.grow-in-loop-at.new.forest in
+    let e = c.grow-child.ensures in
+    let m1 = now_of c.grow-child.new.forest in
     let added = e.added t.node t.is in
-    let stays : m1 p ≡ Some t.node = ap (λ (f : Nodes Mark). f p) added ∙ put_other m c.in_ok-child.child p _ (λ same. none-some t.node (sym e.fresh ∙ ap m (sym same) ∙ t.is)) ∙ t.is in
-    let f = c.in_ok-give-2.ensures in
+    let stays : m1 p ≡ Some t.node = ap (λ (f : Nodes Mark). f p) added ∙ put_other m c.grow-child.result p _ (λ same. none-some t.node (sym e.fresh ∙ ap m (sym same) ∙ t.is)) ∙ t.is in
+    let f = c.give-in-loop-at.ensures in
     let m2 = now_of c.give-in-loop-at.new.forest in
     let x = c.index-symbols-at.result in
     let inside : at < length xs = omega (arith, c.loop-at-test.true) in
     record {
-      half = subst (λ r. IsHalf m2 r ks xs (at + 1)) (sym (f.root ∙ e.root)) (half_step m m1 m2 c.loop-at.forest.root ks xs at p c.in_ok-child.child x _ t.node was.half t.rest t.first was.some (take_next xs at x inside c.index-symbols-at.is) (take_long xs at (omega (arith, inside))) e.fresh refl refl t.is added (f.set t.node stays));
+      half = subst (λ r. IsHalf m2 r ks xs (at + 1)) (sym (f.root ∙ e.root)) (half_step m m1 m2 c.loop-at.forest.root ks xs at p c.grow-child.result x _ t.node was.half t.rest t.first was.some (take_next xs at x inside c.index-symbols-at.is) (take_long xs at (omega (arith, inside))) e.fresh refl refl t.is added (f.set t.node stays));
       long = was.long;
       some = omega arith;
       few = omega (arith, f.live, e.live, was.few);
@@ -145,7 +146,7 @@ loop-at-preserved c =
 
 pub returns : goal.returns
 unfolding complete_levels
-returns c =
+returns g c =
     let was = c.loop-at.invariant in
     let m = now_of c.loop-at.forest in
     let ks = c.loop-place.parents.items in

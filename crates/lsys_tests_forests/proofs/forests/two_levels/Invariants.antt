@@ -6,7 +6,7 @@ use Rattle.lsys_tests_forests.proofs.Grown.{AreGrown, IsHalf}
 use Rattle.lsys_tests_forests.proofs.forests.two_levels.Given as goal
 
 abbrev pub invariant-loop-place : goal.invariant-loop-place
-invariant-loop-place l = record {
+invariant-loop-place g l = record {
   root_is : l.forest.root ≡ l.root;
   alone : now_of l.forest l.root ≡ Some (root_node l.root);
   grown : AreGrown (now_of l.forest) l.root l.parents.items (take l.place l.symbols);
@@ -15,7 +15,7 @@ invariant-loop-place l = record {
 }
 
 abbrev pub invariant-loop-at : goal.invariant-loop-at
-invariant-loop-at l = record {
+invariant-loop-at g l = record {
   half : IsHalf (now_of l.forest) l.forest.root l.parents.items l.symbols l.at;
   long : length l.parents.items ≡ length l.symbols;
   some : 0 < l.at;
