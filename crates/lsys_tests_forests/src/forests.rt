@@ -1,9 +1,10 @@
 //! A forest through its public calls.
-ghost use Rattle.std.specs.Prelude.{◌≡◌, ◌≢◌, ◌<◌, ◌≤◌, ◌+◌, ℕ, drop, length, None, true, false};
+ghost use Rattle.std.specs.Prelude.{◌≡◌, ◌≢◌, ◌<◌, ◌≤◌, ◌+◌, ℕ, drop, length, Some, None, true, false};
 ghost use Rattle.lsys_syntax.specs.Strings.{balanced};
 ghost use Rattle.lsys_module.specs.Views.{string_of};
 ghost use Rattle.lsys_module.specs.declared.symbol.Symbol.TheVariants.{Cut};
 ghost use Rattle.lsys_level.specs.Places.{has_cut, seen_in};
+ghost use Rattle.lsys_forest.specs.Nodes.{root_node};
 ghost use Rattle.lsys_forest.specs.Groves.{now_of, live_nodes, IsLive, AreKids};
 ghost use Rattle.lsys_forest.specs.Rows.{complete_levels};
 ghost use Rattle.lsys_tests_forests.specs.Forests.{GivesKids, GrowsNode};
@@ -102,10 +103,18 @@ fn two_levels(rt: &impl Abort, alloc: Global, symbols: &[Symbol]) -> Forest<Mark
 #[test]
 fn a_root_keeps_an_answer(rt: HostRuntime) {
     let mut forest = Forest::<Mark>::new(rt.alloc()).expect(&rt, "memory");
-    let root = forest.root();
-    forest.reserve(1, 0, 0, 2).expect(&rt, "memory");
-    forest.set_answer(root, Some(Mark(7)));
+    give_answer(&rt, &mut forest);
     has_an_answer_and_no_child(&rt, &forest);
+}
+
+/// Gives the root of a new forest an answer.
+fn give_answer(rt: &impl Abort, forest: &mut Forest<Mark>)
+    requires alone { now_of forest.old forest.old.root ≡ Some (root_node forest.old.root) }
+    requires few { live_nodes forest.old < 4000 }
+{
+    let root = forest.root();
+    forest.reserve(1, 0, 0, 2).expect(rt, "memory");
+    forest.set_answer(root, Some(Mark(7)));
 }
 
 /// The root keeps an answer, and has no child.
@@ -130,11 +139,11 @@ const SECOND: [u32; 66] = [
     41, 40, 39, 38, 37, 36, 35, 34, 33, 32, 31, 30, 29, 28, 27, 26, 25, 24,
 ];
 
-#[test]
-fn contexts_that_skip_are_walked_both_ways(rt: HostRuntime) {
-    let forest = two_levels(&rt, rt.alloc(), &contexts_that_skip());
-    is_walked(&rt, rt.alloc(), &forest, 0, &FIRST);
-    is_walked(&rt, rt.alloc(), &forest, 1, &SECOND);
+/// A forest of two levels: `ABC[DE][SG[HI[JK]L]MNO]`, and this without the first letter.
+fn skipping(rt: &impl Abort, alloc: Global) -> Forest<Mark>
+    ensures { 2 ≤ length (complete_levels result) }
+{
+    two_levels(rt, alloc, &contexts_that_skip())
 }
 
 /// These tags are read where a level of a forest is walked both ways.
@@ -144,12 +153,25 @@ fn is_walked(rt: &impl Abort, alloc: Global, forest: &Forest<Mark>, level: u32, 
     is_row(rt, walk(rt, alloc, forest, level).as_slice(), want);
 }
 
+/// Both levels are walked both ways.
+fn are_walked(rt: &impl Abort, alloc: Global, forest: &Forest<Mark>)
+    requires { 2 ≤ length (complete_levels forest.now) }
+{
+    is_walked(rt, alloc, forest, 0, &FIRST);
+    is_walked(rt, alloc, forest, 1, &SECOND);
+}
+
+#[test]
+fn contexts_that_skip_are_walked_both_ways(rt: HostRuntime) {
+    let forest = skipping(&rt, rt.alloc());
+    are_walked(&rt, rt.alloc(), &forest);
+}
+
 #[test]
 fn levels_that_are_linked_are_walked_as_others(rt: HostRuntime) {
-    let mut forest = two_levels(&rt, rt.alloc(), &contexts_that_skip());
+    let mut forest = skipping(&rt, rt.alloc());
     forest.link(0);
     is_walked(&rt, rt.alloc(), &forest, 1, &SECOND);
     forest.link(1);
-    is_walked(&rt, rt.alloc(), &forest, 0, &FIRST);
-    is_walked(&rt, rt.alloc(), &forest, 1, &SECOND);
+    are_walked(&rt, rt.alloc(), &forest);
 }
