@@ -5,7 +5,13 @@ use std::process::Abort;
 // The words were computed by an independent program.
 #[test]
 fn draws_are_first_words(rt: HostRuntime) {
-    for (key, word) in [
+    for (key, word) in rows_of_draws() {
+        is_same_at(&rt, &draw(*key), word, key);
+    }
+}
+
+fn rows_of_draws() -> &'static [(u64, u64)] {
+    &[
         (0x0, 0xe220a8397b1dcdaf),
         (0x1, 0x910a2dec89025cc1),
         (0x2, 0x975835de1c9756ce),
@@ -16,9 +22,7 @@ fn draws_are_first_words(rt: HostRuntime) {
         (0x8000000000000000, 0x481ec0a212a9f3db),
         (0xfffffffffffffffe, 0xf3203e9039f4a821),
         (0xffffffffffffffff, 0xe4d971771b652c20),
-    ] {
-        is_same_at(&rt, &draw(key), &word, &key);
-    }
+    ]
 }
 
 // The keys were computed by the same program: by places with the code 0, by names with the code of the name.
@@ -59,15 +63,24 @@ fn rows_of_keys() -> &'static [(u64, u64, u32, u64)] {
 
 #[test]
 fn picks_weigh(rt: HostRuntime) {
-    for (draw, weights, place) in [
+    for (draw, weights, place) in rows_of_picks() {
+        is_picked(&rt, *draw, weights, *place);
+    }
+}
+
+/// By this draw the place is picked of these weights.
+fn is_picked(rt: &impl Abort, draw: u64, weights: &[u64; 2], place: Option<usize>) {
+    assert!(rt; weights[0] < 8 && weights[1] < 8);
+    is_same_at(rt, &pick(draw, weights), &place, &draw);
+}
+
+fn rows_of_picks() -> &'static [(u64, [u64; 2], Option<usize>)] {
+    &[
         (0, [1, 1], Some(0)),
         (0x7fff_ffff_ffff_ffff, [1, 1], Some(0)),
         (0x8000_0000_0000_0000, [1, 1], Some(1)),
         (0, [0, 5], Some(1)),
         (0xffff_ffff_ffff_ffff, [0, 5], Some(1)),
         (77, [0, 0], None),
-    ] {
-        assert!(rt; weights[0] < 8 && weights[1] < 8);
-        is_same_at(&rt, &pick(draw, &weights), &place, &draw);
-    }
+    ]
 }

@@ -5,20 +5,20 @@ use crate::same::is_same_at;
 use lsys_io::{LineRead, LineReader, LineRefusal, MemorySource, Source};
 use std::alloc::{AllocError, Global};
 use std::process::Abort;
-use std::test::Fail;
 
 /// What so many calls of a reader answer, in text.
 pub(crate) fn answers<S: Source>(
+    rt: &impl Abort,
     alloc: Global,
     source: &mut S,
     calls: usize,
-) -> Result<Vec<u8>, AllocError> {
-    let mut reader = LineReader::new(alloc)?;
+) -> Vec<u8> {
+    let mut reader = LineReader::new(alloc).expect(rt, "memory");
     let mut text = Vec::new(alloc);
     for _ in 0..calls {
-        add_answer(&mut text, &mut reader, source)?;
+        add_answer(&mut text, &mut reader, source).expect(rt, "memory");
     }
-    Ok(text)
+    text
 }
 
 /// Adds what the next call of a reader answers.
@@ -41,8 +41,7 @@ fn add_answer<S: Source>(
 fn add_line(text: &mut Vec<u8>, line: &[u8]) -> Result<(), AllocError> {
     text.push(b'<')?;
     text.extend_from_slice(line)?;
-    text.push(b'>')?;
-    Ok(())
+    text.extend_from_slice(b">")
 }
 
 /// Three calls of a reader are answered so, where the bytes come in such pieces and the source fails at these calls.
@@ -53,13 +52,13 @@ fn is_read(
     piece: usize,
     failing: Vec<u64>,
     expected: &str,
-) -> Result<(), Fail>
+)
     requires { 0 < piece }
 {
-    let mut source = MemorySource::new(Vec::from_slice(alloc, bytes)?, piece, failing);
-    let text = answers(alloc, &mut source, 3)?;
+    let bytes = Vec::from_slice(alloc, bytes).expect(rt, "memory");
+    let mut source = MemorySource::new(bytes, piece, failing);
+    let text = answers(rt, alloc, &mut source, 3);
     is_same_at(rt, &text.as_slice(), &expected.as_bytes(), &piece);
-    Ok(())
 }
 
 fn scripts_by_lines() -> &'static [(&'static str, &'static str)] {
@@ -76,21 +75,17 @@ fn scripts_by_lines() -> &'static [(&'static str, &'static str)] {
 }
 
 #[test]
-fn lines_and_their_ends(rt: HostRuntime) -> Result<(), Fail> {
-    let alloc = rt.alloc();
+fn lines_and_their_ends(rt: HostRuntime) {
     for (script, expected) in scripts_by_lines() {
-        is_read(&rt, alloc, script.as_bytes(), 1, Vec::new(alloc), *expected)?;
-        is_read(&rt, alloc, script.as_bytes(), 2, Vec::new(alloc), *expected)?;
-        is_read(
-            &rt,
-            alloc,
-            script.as_bytes(),
-            5000,
-            Vec::new(alloc),
-            *expected,
-        )?;
+        is_read_whole(&rt, rt.alloc(), script.as_bytes(), *expected);
     }
-    Ok(())
+}
+
+/// Three calls of a reader are answered so, however small the pieces are in which the bytes come.
+fn is_read_whole(rt: &impl Abort, alloc: Global, bytes: &[u8], expected: &str) {
+    is_read(rt, alloc, bytes, 1, Vec::new(alloc), expected);
+    is_read(rt, alloc, bytes, 2, Vec::new(alloc), expected);
+    is_read(rt, alloc, bytes, 5000, Vec::new(alloc), expected);
 }
 
 fn calls_that_fail() -> &'static [(u64, &'static str)] {
@@ -102,18 +97,14 @@ fn calls_that_fail() -> &'static [(u64, &'static str)] {
 }
 
 #[test]
-fn a_read_fault_stays_and_is_no_end(rt: HostRuntime) -> Result<(), Fail> {
-    let alloc = rt.alloc();
+fn a_read_fault_stays_and_is_no_end(rt: HostRuntime) {
     for (call, expected) in calls_that_fail() {
-        let failing = vec![in alloc; *call]?;
-        is_read(
-            &rt,
-            alloc,
-            b"axiom A\nstring\n".as_slice(),
-            8,
-            failing,
-            *expected,
-        )?;
+        fails_at(&rt, rt.alloc(), *call, *expected);
     }
-    Ok(())
+}
+
+/// Three calls of a reader are answered so, where the source fails at this call.
+fn fails_at(rt: &impl Abort, alloc: Global, call: u64, expected: &str) {
+    let failing = vec![in alloc; call].expect(rt, "memory");
+    is_read(rt, alloc, b"axiom A\nstring\n", 8, failing, expected);
 }

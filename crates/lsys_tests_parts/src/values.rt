@@ -9,13 +9,11 @@ use std::fmt::Display;
 use std::marker::Brand;
 use std::mem::size_of;
 use std::process::Abort;
-use std::test::Fail;
 
 /// An error is told so.
-fn is_told(rt: &impl Abort, alloc: Global, error: &impl Display, want: &str) -> Result<(), Fail> {
-    let text = format!(in alloc; "{error}")?;
+fn is_told(rt: &impl Abort, alloc: Global, error: &impl Display, want: &str) {
+    let text = format!(in alloc; "{error}").expect(rt, "memory");
     is_same(rt, &text.as_str(), &want);
-    Ok(())
 }
 
 fn texts() -> &'static [(TextRefusal, &'static str)] {
@@ -46,19 +44,18 @@ fn strings() -> &'static [(StringRefusal, &'static str)] {
 }
 
 /// Each error is told as the text beside it.
-fn are_told<E: Display>(rt: &impl Abort, alloc: Global, rows: &[(E, &str)]) -> Result<(), Fail> {
+fn are_told<E: Display>(rt: &impl Abort, alloc: Global, rows: &[(E, &str)]) {
     for (error, want) in rows {
-        is_told(rt, alloc, error, *want)?;
+        is_told(rt, alloc, error, *want);
     }
-    Ok(())
 }
 
 #[test]
-fn errors_are_told(rt: HostRuntime) -> Result<(), Fail> {
-    are_told(&rt, rt.alloc(), texts())?;
-    are_told(&rt, rt.alloc(), places())?;
-    are_told(&rt, rt.alloc(), strings())?;
-    is_told(&rt, rt.alloc(), &Arith::DivideByZero, "divide by zero")
+fn errors_are_told(rt: HostRuntime) {
+    are_told(&rt, rt.alloc(), texts());
+    are_told(&rt, rt.alloc(), places());
+    are_told(&rt, rt.alloc(), strings());
+    is_told(&rt, rt.alloc(), &Arith::DivideByZero, "divide by zero");
 }
 
 #[test]
