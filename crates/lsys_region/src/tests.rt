@@ -5,20 +5,25 @@ ghost use Rattle.lsys_region.specs.Rooms.{HaveOneRoom};
 
 use crate::{Region, Run, room};
 use std::alloc::{AllocError, Global};
+use std::fmt::Debug;
 use std::marker::Model;
 use std::process::Abort;
-use std::test::Fail;
+
+/// A value is this one.
+fn is_same<T: PartialEq + Debug>(rt: &impl Abort, found: &T, want: &T) {
+    assert_eq!(rt; *found, *want);
+}
 
 /// A run has this list.
 fn is_read(rt: &impl Abort, region: &Region<u8>, run: &Run, list: &[u8])
     requires { IsLiveRun region.now run.now }
 {
-    assert_eq!(rt; region.read(run), list);
+    is_same(rt, &region.read(run), &list);
 }
 
 /// The vector of a region has so many cells.
 fn has_cells(rt: &impl Abort, region: &Region<u8>, count: usize) {
-    assert_eq!(rt; region.cells.len(), count);
+    is_same(rt, &region.cells.len(), &count);
 }
 
 #[test]
@@ -30,21 +35,25 @@ fn an_empty_list_needs_no_room(rt: HostRuntime) {
 }
 
 #[test]
-#[tactic(auto, unfolding(crate::specs::Rooms::room_of))]
-fn freed_room_is_placed_again(rt: HostRuntime) -> Result<(), Fail> {
+fn freed_room_is_placed_again(rt: HostRuntime) {
     let mut region = Region::<u8>::new(rt.alloc());
-    region.reserve(8)?;
+    place_two_and_one_again(&rt, &mut region);
+}
+
+/// Places two lists, and a third one in the room that the first had.
+#[tactic(auto, unfolding(crate::specs::Rooms::room_of))]
+fn place_two_and_one_again(rt: &impl Abort, region: &mut Region<u8>) {
+    region.reserve(8).expect(rt, "memory");
     let a = region.place(&[1, 2, 3]);
     let b = region.place(&[4, 5, 6, 7]);
-    is_read(&rt, &region, &a, &[1, 2, 3]);
-    is_read(&rt, &region, &b, &[4, 5, 6, 7]);
+    is_read(rt, region, &a, &[1, 2, 3]);
+    is_read(rt, region, &b, &[4, 5, 6, 7]);
 
     region.free(a);
-    region.reserve(4)?;
+    region.reserve(4).expect(rt, "memory");
     let c = region.place(&[8]);
-    is_read(&rt, &region, &c, &[8]);
-    is_read(&rt, &region, &b, &[4, 5, 6, 7]);
-    Ok(())
+    is_read(rt, region, &c, &[8]);
+    is_read(rt, region, &b, &[4, 5, 6, 7]);
 }
 
 /// Frees a run, makes room anew, and places a list with the same room: the vector does not grow.
@@ -61,15 +70,19 @@ fn replaced(region: &mut Region<u8>, run: Run, list: &[u8]) -> Result<Run, Alloc
 }
 
 #[test]
-#[tactic(auto, unfolding(crate::specs::Rooms::room_of))]
-fn a_list_replaces_one_of_the_same_room(rt: HostRuntime) -> Result<(), Fail> {
+fn a_list_replaces_one_of_the_same_room(rt: HostRuntime) {
     let mut region = Region::<u8>::new(rt.alloc());
-    region.reserve(4)?;
+    place_and_replace(&rt, &mut region);
+}
+
+/// A list is replaced by one of the same room.
+#[tactic(auto, unfolding(crate::specs::Rooms::room_of))]
+fn place_and_replace(rt: &impl Abort, region: &mut Region<u8>) {
+    region.reserve(4).expect(rt, "memory");
     let first = region.place(&[1, 2, 3]);
-    let second = replaced(&mut region, first, &[4, 5, 6, 7])?;
-    is_read(&rt, &region, &second, &[4, 5, 6, 7]);
-    has_cells(&rt, &region, 4);
-    Ok(())
+    let second = replaced(region, first, &[4, 5, 6, 7]).expect(rt, "memory");
+    is_read(rt, region, &second, &[4, 5, 6, 7]);
+    has_cells(rt, region, 4);
 }
 
 /// A run, and the list that it should have.
@@ -157,42 +170,47 @@ fn has_its_lists(rt: &impl Abort, shelf: &Shelf) {
     assert!(rt; shelf.agrees());
 }
 
-/// A shelf has so many lists.
-fn has_lists(rt: &impl Abort, shelf: &Shelf, count: usize) {
-    assert_eq!(rt; shelf.len(), count);
+/// Puts a list that was made.
+fn put(rt: &impl Abort, alloc: Global, shelf: &mut Shelf, list: Result<Vec<u8>, AllocError>)
+    requires { IfOk list (λ made. vec_len made ≤ 255) }
+    ensures { shelf.new ≡ shelf.old + 1 }
+{
+    let list = list.expect(rt, "memory");
+    shelf.put(alloc, list.as_slice()).expect(rt, "memory");
 }
 
 /// Puts a list of a round, and takes one in three rounds of five.
-fn play(alloc: Global, shelf: &mut Shelf, round: u64) -> Result<(), AllocError>
+fn play(rt: &impl Abort, alloc: Global, shelf: &mut Shelf, round: u64)
     requires { round < 600 }
 {
-    let list = list_of(alloc, (round % 251) as u8, (round * 37 % 101) as u8)?;
-    shelf.put(alloc, list.as_slice())?;
+    let list = list_of(alloc, (round % 251) as u8, (round * 37 % 101) as u8);
+    put(rt, alloc, shelf, list);
     if round % 5 > 1 {
         let at = round as usize * 13 % shelf.len();
         shelf.take(at);
     }
-    Ok(())
 }
 
 #[test]
-fn runs_of_many_sizes_agree_with_a_plain_list(rt: HostRuntime) -> Result<(), Fail> {
+fn runs_of_many_sizes_agree_with_a_plain_list(rt: HostRuntime) {
     let mut shelf = Shelf::new(rt.alloc());
+    play_all(&rt, rt.alloc(), &mut shelf);
+}
+
+/// Plays 600 rounds, after each of which a shelf has its lists.
+fn play_all(rt: &impl Abort, alloc: Global, shelf: &mut Shelf) {
     for round in 0..600u64 {
-        play(rt.alloc(), &mut shelf, round)?;
-        has_its_lists(&rt, &shelf);
+        play(rt, alloc, shelf, round);
+        has_its_lists(rt, shelf);
     }
-    has_lists(&rt, &shelf, 240);
-    Ok(())
+    is_same(rt, &shelf.len(), &240);
 }
 
 /// Puts a list of each length below 60.
-fn fill(alloc: Global, shelf: &mut Shelf) -> Result<(), AllocError> {
+fn fill(rt: &impl Abort, alloc: Global, shelf: &mut Shelf) {
     for len in 0..60u8 {
-        let list = list_of(alloc, len, len)?;
-        shelf.put(alloc, list.as_slice())?;
+        put(rt, alloc, shelf, list_of(alloc, len, len));
     }
-    Ok(())
 }
 
 /// Takes all lists, beginning at a place that goes by the cycle.
@@ -204,14 +222,18 @@ fn empty(shelf: &mut Shelf, cycle: usize) {
 }
 
 #[test]
-fn cycles_run_in_bounded_memory(rt: HostRuntime) -> Result<(), Fail> {
+fn cycles_run_in_bounded_memory(rt: HostRuntime) {
     let mut shelf = Shelf::new(rt.alloc());
+    run_cycles(&rt, rt.alloc(), &mut shelf);
+}
+
+/// Fills a shelf, which then has its lists and so many cells, and empties it, time and again.
+fn run_cycles(rt: &impl Abort, alloc: Global, shelf: &mut Shelf) {
     for cycle in 0..20usize {
-        fill(rt.alloc(), &mut shelf)?;
-        has_its_lists(&rt, &shelf);
+        fill(rt, alloc, shelf);
+        has_its_lists(rt, shelf);
         // 1 + 2 + 2 * 4 + 4 * 8 + 8 * 16 + 16 * 32 + 27 * 64
-        has_cells(&rt, &shelf.region, 2411);
-        empty(&mut shelf, cycle);
+        has_cells(rt, &shelf.region, 2411);
+        empty(shelf, cycle);
     }
-    Ok(())
 }
