@@ -1,66 +1,48 @@
 //! Which places of a string a cut keeps.
-use crate::same::is_same;
+use crate::same::is_row;
 use lsys_io::{Buffered, MemorySink};
 use lsys_module::{SymbolList, build_string, print_string, scan_string};
 use lsys_rewrite::cut;
 use lsys_text::tokens;
-use std::alloc::{AllocError, Global};
+use std::alloc::Global;
 use std::process::Abort;
-use std::test::Fail;
 
 /// The string of an axiom's line.
-fn string_of(alloc: Global, line: &str) -> Result<SymbolList, AllocError> {
-    if line.len() > 65536 {
-        return Err(AllocError);
-    }
-    let Ok(found) = tokens(alloc, line.as_bytes()) else {
-        return Err(AllocError);
-    };
+fn string_of(rt: &impl Abort, alloc: Global, line: &str) -> SymbolList {
+    assert!(rt; line.len() <= 65536);
+    let found = tokens(alloc, line.as_bytes()).expect(rt, "tokens");
     let read = found.as_slice();
-    if read.is_empty() || scan_string(read, 1).is_err() {
-        return Err(AllocError);
-    }
-    build_string(alloc, read, 1).map_err(|_| AllocError)
+    assert!(rt; !read.is_empty() && scan_string(read, 1).is_ok());
+    build_string(alloc, read, 1).expect(rt, "memory")
 }
 
-/// The text of a string.
-fn printed(alloc: Global, symbols: &SymbolList) -> Result<Vec<u8>, AllocError> {
-    let mut sink = MemorySink::new(alloc, 65536, 7, Vec::new(alloc))?;
-    let mut out = Buffered::new(alloc)?;
-    print_string(&mut out, &mut sink, symbols).map_err(|_| AllocError)?;
-    out.flush(&mut sink).map_err(|_| AllocError)?;
-    Vec::from_slice(alloc, sink.bytes())
+/// The text of a string is this one.
+fn is_printed(rt: &impl Abort, alloc: Global, symbols: &SymbolList, want: &str) {
+    let mut sink = MemorySink::new(alloc, 65536, 7, Vec::new(alloc)).expect(rt, "memory");
+    let mut out = Buffered::new(alloc).expect(rt, "memory");
+    print_string(&mut out, &mut sink, symbols).expect(rt, "room");
+    out.flush(&mut sink).expect(rt, "room");
+    is_row(rt, sink.bytes(), want.as_bytes());
 }
 
 /// `x` for each place that is kept, `.` for each other.
-fn shown(alloc: Global, kept: &[bool]) -> Result<Vec<u8>, AllocError> {
+fn shown(rt: &impl Abort, alloc: Global, kept: &[bool]) -> Vec<u8> {
     let mut text = Vec::new(alloc);
     for is_kept in kept {
-        text.push(if *is_kept { b'x' } else { b'.' })?;
+        let mark = if *is_kept { b'x' } else { b'.' };
+        text.push(mark).expect(rt, "memory");
     }
-    Ok(text)
+    text
 }
 
 /// A cut makes this of a line's string, and keeps these places.
-fn a_cut_leaves(
-    rt: &impl Abort,
-    alloc: Global,
-    line: &str,
-    want: &str,
-    places: &str,
-) -> Result<(), Fail> {
-    let mut symbols = string_of(alloc, line)?;
-    let mut kept = vec![in alloc; false; symbols.len()]?;
+fn a_cut_leaves(rt: &impl Abort, alloc: Global, line: &str, want: &str, places: &str) {
+    let mut symbols = string_of(rt, alloc, line);
+    let mut kept = vec![in alloc; false; symbols.len()].expect(rt, "memory");
     cut(&mut symbols, kept.as_mut_slice());
-    is_text(rt, printed(alloc, &symbols), want)?;
-    is_text(rt, shown(alloc, kept.as_slice()), places)
-}
-
-/// A text is this one.
-fn is_text(rt: &impl Abort, text: Result<Vec<u8>, AllocError>, want: &str) -> Result<(), Fail> {
-    let text = text?;
-    is_same(rt, &text.as_slice(), &want.as_bytes());
-    Ok(())
+    is_printed(rt, alloc, &symbols, want);
+    let text = shown(rt, alloc, kept.as_slice());
+    is_row(rt, text.as_slice(), places.as_bytes());
 }
 
 fn cut_rows() -> &'static [(&'static str, &'static str, &'static str)] {
@@ -79,9 +61,8 @@ fn cut_rows() -> &'static [(&'static str, &'static str, &'static str)] {
 }
 
 #[test]
-fn a_cut_takes_the_rest_of_its_branch(rt: HostRuntime) -> Result<(), Fail> {
+fn a_cut_takes_the_rest_of_its_branch(rt: HostRuntime) {
     for (line, want, places) in cut_rows() {
-        a_cut_leaves(&rt, rt.alloc(), *line, *want, *places)?;
+        a_cut_leaves(&rt, rt.alloc(), *line, *want, *places);
     }
-    Ok(())
 }
