@@ -154,17 +154,16 @@ fn is_walked(rt: &impl Abort, alloc: Global, forest: &Forest<Mark>, level: u32, 
 }
 
 /// Both levels are walked both ways.
-fn are_walked(rt: &impl Abort, alloc: Global, forest: &Forest<Mark>)
-    requires { 2 ≤ length (complete_levels forest.now) }
+fn are_walked(rt: &impl Abort, alloc: Global, forest: Forest<Mark>)
+    requires { 2 ≤ length (complete_levels forest) }
 {
-    is_walked(rt, alloc, forest, 0, &FIRST);
-    is_walked(rt, alloc, forest, 1, &SECOND);
+    is_walked(rt, alloc, &forest, 0, &FIRST);
+    is_walked(rt, alloc, &forest, 1, &SECOND);
 }
 
 #[test]
 fn contexts_that_skip_are_walked_both_ways(rt: HostRuntime) {
-    let forest = skipping(&rt, rt.alloc());
-    are_walked(&rt, rt.alloc(), &forest);
+    are_walked(&rt, rt.alloc(), skipping(&rt, rt.alloc()));
 }
 
 #[test]
@@ -173,5 +172,5 @@ fn levels_that_are_linked_are_walked_as_others(rt: HostRuntime) {
     forest.link(0);
     is_walked(&rt, rt.alloc(), &forest, 1, &SECOND);
     forest.link(1);
-    are_walked(&rt, rt.alloc(), &forest);
+    are_walked(&rt, rt.alloc(), forest);
 }
