@@ -2,7 +2,8 @@ use Rattle.std.proofs.Common.{◌≡◌, ◌+◌, ◌<◌, [], ◌∷◌, ◌++�
 use Rattle.std.specs.Prelude.{IsSome}
 use Rattle.std.proofs.lemmas.Option.{none-some}
 use Rattle.lsys_spec.specs.Rows.{AreApart}
-use Rattle.lsys_forest.specs.Nodes.{Node, Nodes, with_node, with_kids, root_node}
+use Rattle.lsys_level.specs.Places.{seen_in}
+use Rattle.lsys_forest.specs.Nodes.{Node, Nodes, new_node, with_node, with_kids, root_node}
 use Rattle.lsys_forest.specs.Groves.{now_of, AreKids}
 use Rattle.lsys_forest.specs.Rows.{complete_levels}
 use Rattle.lsys_forest.proofs.StockLemmas.{put_other}
@@ -98,8 +99,10 @@ give-requires-in-loop-at-clause-lives g c =
     let t = turn_at m c.loop-at.forest.root ks xs at p was.half within c.index-parent.ensures in
     let e = c.grow-child.ensures in
     let m1 = now_of c.grow-child.new.forest in
-    let added = e.added t.node t.is in
-    let stays : m1 p ≡ Some t.node = ap (λ (f : Nodes Mark). f p) added ∙ put_other m c.grow-child.result p _ (λ same. none-some t.node (sym e.fresh ∙ ap m (sym same) ∙ t.is)) ∙ t.is in
+    let born = new_node p 0 0 (t.node.depth + 1) (seen_in c.index-symbols-at.result) 0 in
+    let with_child : Nodes Mark = with_node m c.grow-child.result (Some born) in
+    let added : m1 ≡ with_child = e.added t.node t.is in
+    let stays : m1 p ≡ Some t.node = ap (λ (f : Nodes Mark). f p) {y = with_child} added ∙ put_other m c.grow-child.result p _ (λ same. none-some t.node (sym e.fresh ∙ ap m (sym same) ∙ t.is)) ∙ t.is in
     subst IsSome (sym stays) refl
 
 pub give-requires-in-loop-at-clause-kids : goal.give-requires-in-loop-at-clause-kids
@@ -131,8 +134,10 @@ loop-at-preserved g c =
     let t = turn_at m c.loop-at.forest.root ks xs at p was.half within c.index-parent.ensures in
     let e = c.grow-child.ensures in
     let m1 = now_of c.grow-child.new.forest in
-    let added = e.added t.node t.is in
-    let stays : m1 p ≡ Some t.node = ap (λ (f : Nodes Mark). f p) added ∙ put_other m c.grow-child.result p _ (λ same. none-some t.node (sym e.fresh ∙ ap m (sym same) ∙ t.is)) ∙ t.is in
+    let born = new_node p 0 0 (t.node.depth + 1) (seen_in c.index-symbols-at.result) 0 in
+    let with_child : Nodes Mark = with_node m c.grow-child.result (Some born) in
+    let added : m1 ≡ with_child = e.added t.node t.is in
+    let stays : m1 p ≡ Some t.node = ap (λ (f : Nodes Mark). f p) {y = with_child} added ∙ put_other m c.grow-child.result p _ (λ same. none-some t.node (sym e.fresh ∙ ap m (sym same) ∙ t.is)) ∙ t.is in
     let f = c.give-in-loop-at.ensures in
     let m2 = now_of c.give-in-loop-at.new.forest in
     let x = c.index-symbols-at.result in
