@@ -1,5 +1,5 @@
 -- One level more beside the old ones.
-use Rattle.std.proofs.Common.{◌≡◌, ℕ, suc, ◌+◌, ◌<◌, ◌≤◌, ◌^◌, true, false, Bool, Option, Some, None, List, [], ◌∷◌, ◌++◌, length, get_or, refl, sym, ap, ◌∙◌, subst, arith}
+use Rattle.std.proofs.Common.{◌≡◌, ℕ, suc, ◌+◌, ◌<◌, ◌≤◌, ◌^◌, true, false, Bool, Option, Some, None, Result, Ok, Err, OnOk, List, [], ◌∷◌, ◌++◌, length, get_or, refl, sym, ap, ◌∙◌, subst, arith}
 use Rattle.std.specs.List.{All}
 use Rattle.std.proofs.Math.Seq.{get_or-append_seam}
 use Rattle.std.proofs.lemmas.Option.{slice_get_within, slice_get-get_or}
@@ -15,6 +15,7 @@ use Rattle.lsys_module.specs.Views.{symbol_of, string_of}
 use Rattle.lsys_level.specs.Tags.{HasOwnTags}
 use Rattle.lsys_level.specs.Places.{spots_of, has_cut}
 use Rattle.lsys_laws.specs.KeptQuestions.{places_in}
+use Rattle.lsys_flat.specs.declared.origin.Origin.{Origin}
 use Rattle.lsys_flat.specs.Origins.{AreChildren}
 use Rattle.lsys_flat.specs.Supplies.{Supply, tags_held, AreNamed}
 use Rattle.lsys_flat.specs.Tagged.{all_tagged, AgreeAll, AllNamed}
@@ -23,7 +24,7 @@ use Rattle.lsys_flat.proofs.Agreeing.{new_new, old_all, all_chained, distinct_at
 use Rattle.lsys_flat.proofs.Owning.{own_tags}
 use Rattle.lsys_flat.specs.declared.level.Level.{Level}
 use Rattle.lsys_flat.specs.Lines.{Descent, no_line}
-use Rattle.lsys_flat.specs.Revised.{Revised, tags_of, all_spots, AreAllNamed, above_level, AreOldLevels, IsRevised, IsNextLevel}
+use Rattle.lsys_flat.specs.Revised.{Revised, tags_of, all_spots, with_level, AreAllNamed, above_level, AreOldLevels, GrowsByLevel, IsRevised, IsNextLevel, AreNamedBeside}
 use Rattle.lsys_flat.proofs.Below.{LineAt, old_line, lines_count, new_line, tags_at, tags_push, distinct_above, distinct_push, level_short}
 use Rattle.lsys_flat.proofs.Seeing.{spots_same, all_spots_push, spots_have, string_balanced, no_cut}
 
@@ -160,10 +161,6 @@ lines_so_far seed xs ys r h = lines_count _ ys r.lines h.lines
 pub same_line : (seed : ℕ) (xs ys : List (List LevelSymbol)) (r : Revised) (l : Descent) (k : ℕ) → IsRevised seed xs ys r → l ≡ get_or r.old_lines k no_line → k ≡ length r.lines → l ≡ get_or r.old_lines (length ys) no_line
 same_line seed xs ys r l k h e n = e ∙ ap (λ k. get_or r.old_lines k no_line) (n ∙ lines_so_far seed xs ys r h)
 
--- the level's mates are as many as its symbols
-pub mates_length : (seed : ℕ) (xs ys : List (List LevelSymbol)) (y : List LevelSymbol) (level : Level) (r : Revised) → IsRevised seed xs ys r → IsNextLevel seed xs ys y level → (mates : List (Option ℕ)) → length mates ≡ length level.origins.items → length mates ≡ length y
-mates_length seed xs ys y level r h n mates e = e ∙ new_length seed xs ys y level r h n
-
 pub few_taken : (seed : ℕ) (xs ys : List (List LevelSymbol)) (y : List LevelSymbol) (level : Level) (r : Revised) → IsRevised seed xs ys r → IsNextLevel seed xs ys y level → (k : ℕ) → k ≡ length y → tags_held r.supply + k < 2 ^ 32
 few_taken seed xs ys y level r h n k e = omega (arith, h.few, n.few, e)
 
@@ -193,3 +190,19 @@ next_by seed xs ys y level r h n l e mates tags after paired named used few =
 
 pub tags_length : (old : List ℕ) (used : List Bool) (mates : List (Option ℕ)) (from : ℕ) (tags : List ℕ) (to : ℕ) → AreNamed old used mates from tags to → length tags ≡ length mates
 tags_length old used mates from tags to h = named_length old used mates from tags to h
+
+-- the old level beside the next one, told by the parts of the revision
+pub line_beside : (seed : ℕ) (xs ys : List (List LevelSymbol)) (r parts : Revised) (l : Descent) (k : ℕ) → IsRevised seed xs ys r → parts ≡ r → l ≡ get_or parts.old_lines k no_line → k ≡ length parts.lines → l ≡ get_or r.old_lines (length ys) no_line
+line_beside seed xs ys r parts l k h e there n = same_line seed xs ys parts l k (inside seed xs ys parts r e h) there n ∙ ap (λ (r : Revised). get_or r.old_lines (length ys) no_line) e
+
+-- one level more, by what was named beside the old level
+pub next_named : (seed : ℕ) (xs ys : List (List LevelSymbol)) (y : List LevelSymbol) (level : Level) (r : Revised) → IsRevised seed xs ys r → IsNextLevel seed xs ys y level → (l : Descent) → l ≡ get_or r.old_lines (length ys) no_line
+    → (origins : List Origin) → origins ≡ level.origins.items → (after : Revised) (tags : List ℕ) → AreNamedBeside l origins r after tags → after ≡ record r { supply = after.supply; mates = after.mates } → IsRevised seed xs (ys ++ y ∷ []) (with_level level tags after)
+next_named seed xs ys y level r h n l e origins same after tags named rest =
+    let k = subst (λ origins. AreNamedBeside l origins r after tags) same named in
+    subst (λ (after : Revised). IsRevised seed xs (ys ++ y ∷ []) (with_level level tags after)) (sym rest)
+    (next_by seed xs ys y level r h n l e after.mates tags after.supply k.paired k.named k.used k.taken)
+
+pub grows : {A E : Type 0} → (result : Result A E) (level : Level) (before with_it after : Revised) → OnOk result (after ≡ with_it) → GrowsByLevel level before with_it → OnOk result (GrowsByLevel level before after)
+grows (Ok done) level before with_it after e g = λ seed xs ys y h n. subst (IsRevised seed xs (ys ++ y ∷ [])) (sym e) (g seed xs ys y h n)
+grows (Err failed) level before with_it after e g = tt

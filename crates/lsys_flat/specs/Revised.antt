@@ -1,5 +1,6 @@
 -- New levels beside old ones.
 use Rattle.std.specs.Prelude.{◌≡◌, ◌<◌, ◌≤◌, ◌+◌, ◌^◌, ℕ, zero, suc, true, Option, Some, List, [], ◌∷◌, ◌++◌, length, map, sum_by, slice_get, slice_index_or}
+use Rattle.lsys_syntax.specs.Calls.{Lent}
 use Rattle.lsys_spec.specs.Draws.{key_of}
 use Rattle.lsys_spec.specs.Systems.{Each}
 use Rattle.lsys_spec.specs.Levels as L
@@ -7,8 +8,10 @@ use Rattle.lsys_spec.specs.Levels.{LevelSymbol, lineage, level_balanced}
 use Rattle.lsys_spec.specs.Cuts.{Distinct}
 use Rattle.lsys_level.specs.Spots.{Module, Spotted, seen_by, level_by, spots_at}
 use Rattle.lsys_laws.specs.KeptQuestions.{places_in}
-use Rattle.lsys_flat.specs.Origins.{root_level}
-use Rattle.lsys_flat.specs.Supplies.{Supply, in_use, tags_held, AreNamed}
+use Rattle.lsys_flat.specs.declared.origin.Origin.{Origin}
+use Rattle.lsys_flat.specs.Origins.{root_level, ArePaired}
+use Rattle.lsys_flat.specs.Supplies.{Supply, in_use, tags_held, AreNamed, GivesTags}
+use Rattle.lsys_level.specs.Places.{spots_of}
 use Rattle.lsys_level.specs.Tags.{NamesTell}
 use Rattle.lsys_flat.specs.Tagged.{all_tagged, AgreeAll}
 use Rattle.lsys_flat.specs.Grown.{HasSymbols}
@@ -84,6 +87,24 @@ IsBegunBeside old r = (seed : ℕ) (xs : List (List LevelSymbol)) → AreOldLeve
 abbrev pub GrowsByLevel : Level → Revised → Revised → Type 0
 GrowsByLevel level old new =
     (seed : ℕ) (xs ys : List (List LevelSymbol)) (y : List LevelSymbol) → IsRevised seed xs ys old → IsNextLevel seed xs ys y level → IsRevised seed xs (ys ++ y ∷ []) new
+
+-- The symbols of a level, which have these origins, are paired with those of an old one, and named: what changes of a revision, and the tags.
+pub record AreNamedBeside (old : Descent) (origins : List Origin) (before after : Revised) (tags : List ℕ) : Type 0 where
+  pub paired : ArePaired old.origins origins before.mates after.mates
+  pub each : length after.mates ≡ length origins
+  pub named : GivesTags after.mates old.tags before.supply after.supply tags
+  pub used : after.supply.used ≡ before.supply.used
+  pub taken : tags_held after.supply ≤ tags_held before.supply + length after.mates
+
+abbrev pub NamesBeside : Descent → List Origin → Lent Revised → List ℕ → Type 0
+NamesBeside old origins r tags = AreNamedBeside old origins r.entry.now r.exit.now tags
+
+-- a level with these tags is kept behind those that are there
+abbrev pub with_level : Level → List ℕ → Revised → Revised
+with_level level tags r = record r {
+  view = r.view ++ spots_of level.symbols tags level.keys.items ∷ [];
+  lines = r.lines ++ record { origins = level.origins.items; tags = tags } ∷ [];
+}
 
 -- by some seed and levels this is the next level
 pub record CanAdd (r : Revised) (level : Level) : Type 0 where

@@ -1,7 +1,7 @@
 //! What is kept of the children of a level's symbols.
 ghost use Rattle.std.specs.Prelude.{◌≡◌, ◌+◌, ◌*◌, ◌<◌, ◌≤◌, ◌^◌, length, IfSome, OnOk};
 ghost use Rattle.lsys_spec.specs.Draws.{number_base};
-ghost use Rattle.lsys_flat.specs.Grown.{nothing_grown, with_child, AddsByNumbers, IsFinished};
+ghost use Rattle.lsys_flat.specs.Grown.{nothing_grown, where_room, with_child, AddsByNumbers, IsFinished};
 
 use crate::Origin;
 use crate::level::Level;
@@ -103,9 +103,19 @@ impl Made {
         }
         let is_kept = stays(self.cutting, symbol);
         self.cutting = cutting_behind(self.cutting, symbol);
-        if !is_kept {
-            return Ok(());
+        if is_kept {
+            self.add_symbol(origin, key, symbol)?;
         }
+        Ok(())
+    }
+
+    // Adds a symbol whose parent has this key, unless it has no room.
+    fn add_symbol(&mut self, origin: Origin, key: u64, symbol: &Symbol) -> Result<(), AllocError>
+        requires few { origin.count < number_base }
+        ensures added { OnOk result (self.new ≡ where_room origin key symbol.now self.old) }
+        ensures parents { self.new.parents ≡ self.old.parents }
+        ensures room { self.new.room ≡ self.old.room }
+    {
         if self.symbols.len() == self.room {
             self.fits = false;
             return Ok(());

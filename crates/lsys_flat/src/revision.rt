@@ -1,10 +1,17 @@
 //! New levels beside old ones.
-ghost use Rattle.std.specs.Prelude.{◌≡◌, ◌++◌, ◌∷◌, List, [], map, slice_index_or, IfOk, OnOk};
+ghost use Rattle.std.specs.Prelude.{◌≡◌, ◌+◌, ◌++◌, ◌∷◌, ◌<◌, ◌^◌, true, false, List, [], length, map, slice_index_or, IfOk, OnOk};
+ghost use Rattle.std.specs.List.{All};
+ghost use Rattle.lsys_syntax.specs.Strings.{balanced};
+ghost use Rattle.lsys_module.specs.Views.{string_of};
+ghost use Rattle.lsys_level.specs.Places.{has_cut};
 ghost use Rattle.lsys_level.specs.Spots.{Spotted};
+ghost use Rattle.lsys_level.specs.Tags.{HasOwnTags};
 ghost use Rattle.lsys_flat.specs.Lines.{line_of, no_line};
-ghost use Rattle.lsys_flat.specs.Revised.{CanAdd, GrowsByLevel, IsBegunBeside};
+ghost use Rattle.lsys_flat.specs.Supplies.{tags_held};
+ghost use Rattle.lsys_flat.specs.Revised.{with_level, CanAdd, GrowsByLevel, IsBegunBeside, NamesBeside};
 
 use crate::ancestry::Ancestry;
+use crate::origin::Origin;
 use crate::{Level, TagSupply, pair};
 use lsys_level::{FlatLevels, Tag};
 use std::alloc::{AllocError, Global};
@@ -78,26 +85,46 @@ impl<'a> Revision<'a> {
             origins: Vec::new(self.alloc),
             tags: Vec::new(self.alloc),
         };
-        let old = line_at(self.olds, self.ancestries.len(), &none);
-        let mates = pair(
+        let old = next_line(self.olds, self.ancestries.as_slice(), &none);
+        let tags = self.name(old, level.origins.as_slice())?;
+        self.keep(level, tags)
+    }
+
+    // Pairs the symbols of the next level, which have these origins, with those of an old one. Returns their tags.
+    fn name(&mut self, old: &Ancestry, origins: &[Origin]) -> Result<Vec<Tag>, AllocError>
+        requires parents { All (λ o. o.parent < length self.old.mates) origins.now }
+        requires few { length (line_of old.now).origins < 2 ^ 32 }
+        requires tags { length (line_of old.now).tags ≡ length (line_of old.now).origins }
+        requires room { tags_held self.old.supply + length origins.now < 2 ^ 32 }
+        ensures named { IfOk result (λ tags. NamesBeside (line_of old.now) origins.now self tags.items) }
+        ensures rest { self.new ≡ record self.old { supply = self.new.supply; mates = self.new.mates } }
+    {
+        self.mates = pair(
             self.alloc,
             old.origins.as_slice(),
-            level.origins.as_slice(),
+            origins,
             self.mates.as_slice(),
         )?;
-        let tags = self
-            .supply
-            .name_level(self.alloc, mates.as_slice(), old.tags.as_slice())?;
-        self.view.push_level(
-            level.symbols,
-            copy_of(self.alloc, tags.as_slice())?,
-            level.keys,
-        )?;
+        self.supply
+            .name_level(self.alloc, self.mates.as_slice(), old.tags.as_slice())
+    }
+
+    // Keeps the next level, whose symbols have these tags.
+    fn keep(&mut self, level: Level, tags: Vec<Tag>) -> Result<(), AllocError>
+        requires tags { length tags.items ≡ length level.symbols }
+        requires keys { length level.keys.items ≡ length level.symbols }
+        requires balance { balanced 0 (string_of level.symbols) ≡ true }
+        requires whole { has_cut level.symbols ≡ false }
+        requires own { HasOwnTags (with_level level tags.items self.old).view }
+        ensures kept { OnOk result (self.new ≡ with_level level tags.items self.old) }
+        ensures olds { self.new.old_lines ≡ self.old.old_lines }
+    {
+        let copy = copy_of(self.alloc, tags.as_slice())?;
+        self.view.push_level(level.symbols, copy, level.keys)?;
         self.ancestries.push(Ancestry {
             origins: level.origins,
             tags,
         })?;
-        self.mates = mates;
         Ok(())
     }
 
@@ -124,12 +151,12 @@ impl<'a> Revision<'a> {
     }
 }
 
-// The old level, or the empty one where there are no more.
-fn line_at<'b>(old: &'b [Ancestry], level: usize, none: &'b Ancestry) -> &'b Ancestry
+// The old level beside the next one of those that were made, or the empty one where there are no more.
+fn next_line<'b>(old: &'b [Ancestry], made: &[Ancestry], none: &'b Ancestry) -> &'b Ancestry
     requires { line_of none.now ≡ no_line }
-    ensures { line_of result.now ≡ slice_index_or (map line_of old.now) level no_line }
+    ensures { line_of result.now ≡ slice_index_or (map line_of old.now) (length made.now) no_line }
 {
-    match old.get(level) {
+    match old.get(made.len()) {
         Some(line) => line,
         None => none,
     }

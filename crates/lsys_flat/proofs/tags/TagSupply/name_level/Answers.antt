@@ -6,6 +6,9 @@ use Rattle.lsys_flat.proofs.Naming.{one_old, one_new, ended}
 use Rattle.lsys_flat.proofs.tags.TagSupply.name_level.Goals as goal
 use Rattle.lsys_flat.proofs.tags.TagSupply.name_level.Goals.{in-Some, in-None}
 
+pub bounds-old-place : goal.bounds-old-place
+bounds-old-place c = c.requires.within c.loop-mate.mate-index c.in-Some.place (slice_get-get_or c.args.mates.now c.loop-mate.mate-index None c.loop-mate-test.true ∙ ap Some c.in-Some.is)
+
 pub loop-mate-preserved : goal.loop-mate-preserved
 loop-mate-preserved c =
     let ms = c.args.mates.now in
