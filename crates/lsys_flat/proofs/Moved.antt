@@ -11,7 +11,7 @@ use Rattle.lsys_match.specs.Asks.{IsMade}
 use Rattle.lsys_match.specs.Kept.{Kept}
 use Rattle.lsys_match.specs.KeptAnswers.{HoldOwnRuns}
 use Rattle.lsys_flat.specs.Moves.{moved, AreWithin, AreSwapped}
-use Rattle.lsys_flat.specs.Answers.{lists_of, at_level, answer_on_level, AreMadeWith, AllHoldOwnRuns, AllStayMade, OthersStayMade, AreReleased, CanMove, CanTakeOver, moved_from, all_moved, AreAllLeft, OthersAreGone}
+use Rattle.lsys_flat.specs.Answers.{lists_of, at_level, answer_on_level, AreMadeWith, AllHoldOwnRuns, AllStayMade, OthersStayMade, AreReleased, CanAllMove, CanMove, CanTakeOver, moved_from, all_moved, AreAllLeft, OthersAreGone}
 use Rattle.lsys_flat.proofs.Freed.{own_back}
 
 -- 1. one level
@@ -187,6 +187,16 @@ module _ (olds0 fresh0 : List (List (Option Kept))) (taken : List (Vec (Option �
           (en ∙ ap (λ a. moved a b ks) old_is ∙ ap (λ b. moved (at_level (lists_of olds) level) b ks) new_is ∙ ap (moved (at_level (lists_of olds) level) (at_level (lists_of fresh) level)) places_is)
           (subst (λ ks. AreSwapped (at_level (lists_of olds) level) (at_level (lists_of fresh) level) ks o) places_is
           (subst (λ b. AreSwapped (at_level (lists_of olds) level) b ks o) new_is (subst (λ a. AreSwapped a b ks o) old_is l)))
+
+  pub can_go : (dv dw : Vec (Option Kept) Global) (k : Vec (Option ℕ) Global) (a b : List (Option Kept)) (ks : List (Option ℕ))
+      → level < length olds → level < length fresh → level < length taken
+      → a ≡ (get_or olds level dv).items → b ≡ (get_or fresh level dw).items → k ≡ get_or taken level k → ks ≡ k.items
+      → CanAllMove olds0 fresh0 (lists_of taken) → CanMove a b ks
+  can_go dv dw k a b ks x y z ea eb ek eks can =
+      let old_is : a ≡ at_level olds0 level = ea ∙ sym (item_at olds level dv x) ∙ h.rest_old level (omega arith) in
+      let new_is : b ≡ at_level fresh0 level = eb ∙ sym (item_at fresh level dw y) ∙ h.rest_new level (omega arith) in
+      let places_is : ks ≡ at_level (lists_of taken) level = eks ∙ ap (λ (v : Vec (Option ℕ) Global). v.items) ek ∙ sym (item_at taken level k z) in
+      subst (λ a. CanMove a b ks) (sym old_is) (subst (λ b. CanMove (at_level olds0 level) b ks) (sym new_is) (subst (CanMove (at_level olds0 level) (at_level fresh0 level)) (sym places_is) (can level)))
 
 least : (a b m level : ℕ) → m ≡ ord_min nat_cmp a b → m ≤ level → min a b ≤ level
 least a b m level e h = by (is_lt (nat_cmp b a)) e

@@ -84,4 +84,11 @@ pub returns-in_err-ask_level-clause-new : goal.returns-in_err-ask_level-clause-n
 returns-in_err-ask_level-clause-new g c = grind (arith, common_steps)
 
 pub loop-level-preserved : goal.loop-level-preserved
-loop-level-preserved g c = grind (arith, common_steps)
+loop-level-preserved g c = record {
+  well = c.loop-level.invariant.well;
+  found = c.in_ok-ask_level.ensures.found;
+  new = c.in_ok-ask_level.ensures.new c.args.store.now c.loop-level.invariant.new;
+  asked = omega (arith, c.in_ok-ask_level.ensures.asked, c.loop-level.invariant.asked);
+  drafts = λ limit xs e olds.
+      c.in_ok-ask_level.ensures.going limit xs c.args.store.now c.args.visited.now olds c.loop-level.invariant.new (c.loop-level.invariant.drafts limit xs e olds);
+}
