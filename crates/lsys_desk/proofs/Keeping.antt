@@ -1,14 +1,14 @@
 -- What is said of each system that is kept.
-use Rattle.std.proofs.Common.{◌≡◌, ◌-◌, List, [], ◌∷◌, ◌++◌, ◌≢◌, ◌∙◌, length, Some, None, ap, subst}
+use Rattle.std.proofs.Common.{◌≡◌, ◌-◌, Bool, true, false, Result, List, [], ◌∷◌, ◌++◌, ◌≢◌, ◌∙◌, length, Some, None, ap, subst}
 use Rattle.std.specs.Prelude.{All}
 use Rattle.std.proofs.lemmas.List.Elements.{All-push, All-nil, All-drop, All-take, All-get_or}
 use Rattle.std.proofs.lemmas.Option.{slice_get_within, get_or_from_slice_get}
+use Rattle.lsys_io.specs.declared.Failed.{Failed}
 use Rattle.lsys_spec.specs.Systems.{System}
 use Rattle.lsys_desks.specs.Timelines.{Timeline, most_kept, nearest, nothing_kept}
 use Rattle.lsys_desks.specs.Desks.{EachKept}
 use Rattle.lsys_session.specs.declared.outcome.Outcome.{Outcome}
-use Rattle.lsys_session.specs.declared.outcome.Outcome.TheVariants as outcomes
-use Rattle.lsys_desk.specs.Steps.{steps_after, steps_by}
+use Rattle.lsys_desk.specs.Steps.{is_taken, steps_after, steps_by}
 use Rattle.lsys_desk.specs.declared.step.Step.{Step}
 use Rattle.lsys_desk.specs.declared.step.Step.TheVariants.{Edit, Undo, Redo}
 
@@ -21,13 +21,12 @@ module _ (P : System → Type 0) where
   step_kept Undo h s k p = record { past = All-take P (length h.past - 1) h.past k.past; future = All-push P h.future s k.future p }
   step_kept Redo h s k p = record { past = All-push P h.past s k.past p; future = All-take P (length h.future - 1) h.future k.future }
 
-  pub steps_kept : (o : Outcome) (step : Step) (h : Timeline System) (s : System) → EachKept P h → P s → EachKept P (steps_after o step h s)
-  steps_kept outcomes.Skipped step h s k p = k
-  steps_kept outcomes.Accepted step h s k p = step_kept step h s k p
-  steps_kept outcomes.Printed step h s k p = k
-  steps_kept outcomes.Refused step h s k p = k
-  steps_kept outcomes.Memory step h s k p = k
-  steps_kept outcomes.Quit step h s k p = k
+  unless_kept : (taken : Bool) (step : Step) (h : Timeline System) (s : System) → EachKept P h → P s → EachKept P (elim taken [ true ↦ steps_by step h s | false ↦ h ])
+  unless_kept true step h s k p = step_kept step h s k p
+  unless_kept false step h s k p = k
+
+  pub steps_kept : (led : Result Outcome Failed) (step : Step) (h : Timeline System) (s : System) → EachKept P h → P s → EachKept P (steps_after led step h s)
+  steps_kept led step h s k p = unless_kept (is_taken led) step h s k p
 
   pub nearest_kept : (xs : List System) (s : System) → All P xs → nearest xs ≡ Some s → P s
   nearest_kept xs s h e =

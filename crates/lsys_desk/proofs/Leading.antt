@@ -1,8 +1,7 @@
 -- What is said where a desk goes from one system to another.
 use Rattle.std.proofs.Common.{◌≡◌, ℕ, Bool, true, false, Option, Some, None, Result, Ok, Err, List, [], refl, sym, ap, ◌∙◌, subst}
-use Rattle.std.specs.Prelude.{IfOk, IsErr, codes}
+use Rattle.std.specs.Prelude.{IfOk, codes}
 use Rattle.lsys_io.specs.Writes.{WasPut}
-use Rattle.lsys_io.proofs.Puts.{puts_refused}
 use Rattle.lsys_io.specs.declared.Failed.{Failed}
 use Rattle.lsys_spec.specs.Systems.{System}
 use Rattle.lsys_spec.specs.Levels as L
@@ -132,28 +131,28 @@ module _ {K : Type 0} (written : K → Option (List ℕ)) (faults : K → ℕ) (
   steps = steps_by step d.steps d.system
 
   led_so : (lacks : Bool) (x : Result (List (List L.LevelSymbol)) (List ℕ)) (o : Outcome) (new : System) (h : timelines.Timeline System) → let r = memory_or lacks d.system (edited limit d.system to x) in
-      WasSaid written faults a b held r.text (outcome_by_reply outcomes.Accepted r) (Ok o) → new ≡ r.next → h ≡ steps_after o step d.steps d.system
+      WasSaid written faults a b held r.text (outcome_by_reply outcomes.Accepted r) (Ok o) → new ≡ r.next → h ≡ steps_after (Ok o) step d.steps d.system
       → WasServed written faults a b held (desk_memory_or lacks d (led d (edited limit d.system to x) steps)) (desk new h) (Ok o)
   led_so true x o new h says n e = record {
     put = says.put;
     empty = says.empty;
-    next = same_desk new d.system h d.steps n (e ∙ ap (λ o. steps_after o step d.steps d.system) says.outcome);
+    next = same_desk new d.system h d.steps n (e ∙ ap (λ o. steps_after (Ok o) step d.steps d.system) says.outcome);
     became = subst (Became (refused_memory d.system)) (sym says.outcome) (record { refusal = refl; memory = refl; end = refl });
   }
   led_so false (Err why) o new h says n e = record {
     put = says.put;
     empty = says.empty;
-    next = same_desk new d.system h d.steps n (e ∙ ap (λ o. steps_after o step d.steps d.system) says.outcome);
+    next = same_desk new d.system h d.steps n (e ∙ ap (λ o. steps_after (Ok o) step d.steps d.system) says.outcome);
     became = subst (Became (refused d.system why)) (sym says.outcome) (record { refusal = refl; memory = refl; end = refl });
   }
   led_so false (Ok levels) o new h says n e = record {
     put = says.put;
     empty = says.empty;
-    next = same_desk new to h steps n (e ∙ ap (λ o. steps_after o step d.steps d.system) says.outcome);
+    next = same_desk new to h steps n (e ∙ ap (λ o. steps_after (Ok o) step d.steps d.system) says.outcome);
     became = subst (Became (edited limit d.system to (Ok levels))) (sym says.outcome) (record { refusal = refl; memory = refl; end = refl });
   }
 
-  pub step_taken : (o : Outcome) (new : System) (h : timelines.Timeline System) → WasLed written faults a b held limit d.system to new (Ok o) → h ≡ steps_after o step d.steps d.system
+  step_taken : (o : Outcome) (new : System) (h : timelines.Timeline System) → WasLed written faults a b held limit d.system to new (Ok o) → h ≡ steps_after (Ok o) step d.steps d.system
       → WasServedOrLacked written faults a b held d (step_answer limit d to steps) (desk new h) (Ok o)
   step_taken o new h l e =
       let r = memory_or l.lacks d.system (edited limit d.system to (levels_of limit to)) in
@@ -167,15 +166,19 @@ module _ {K : Type 0} (written : K → Option (List ℕ)) (faults : K → ℕ) (
   same_text false (Err why) = refl
 
   -- the sink failed at it
-  pub step_failed : (failed : Failed) (middle : System) (new : Desk) (result : Result Outcome Failed) → IsErr result → WasLed written faults a b held limit d.system to middle (Err failed)
-      → WasServedOrLacked written faults a b held d (step_answer limit d to steps) new result
-  step_failed failed middle new (Ok o) is l = cc
-  step_failed failed middle new (Err f) is l = record {
+  step_failed : (failed : Failed) (middle : System) (new : Desk) → WasLed written faults a b held limit d.system to middle (Err failed)
+      → WasServedOrLacked written faults a b held d (step_answer limit d to steps) new (Err failed)
+  step_failed failed middle new l = record {
     lacks = l.lacks;
     gives = record {
-      put = subst (λ (text : List ℕ). WasPut {A = Outcome} written faults a b [] held text (Err f)) (ap (λ (q : Reply). q.text) l.is ∙ same_text l.lacks (levels_of limit to)) (puts_refused {B = Outcome} {result = Err f} refl l.says.put);
+      put = subst (λ (text : List ℕ). WasPut {A = Outcome} written faults a b [] held text (Err failed)) (ap (λ (q : Reply). q.text) l.is ∙ same_text l.lacks (levels_of limit to)) l.says.put;
       empty = l.says.empty;
       next = tt;
       became = tt;
     };
   }
+
+  pub step_led : (result : Result Outcome Failed) (new : System) (h : timelines.Timeline System) → WasLed written faults a b held limit d.system to new result → h ≡ steps_after result step d.steps d.system
+      → WasServedOrLacked written faults a b held d (step_answer limit d to steps) (desk new h) result
+  step_led (Ok o) new h l e = step_taken o new h l e
+  step_led (Err failed) new h l e = step_failed failed new (desk new h) l

@@ -135,12 +135,13 @@ told_own limit s levels l r d e h xs is =
 
 module _ (limit : ℕ) (old to : System) where
   after_by : (lacks : Bool) (x : Result (List (List LevelSymbol)) (List ℕ)) (o : Outcome) (new : System) (m : Option KeptMotions) → let r = memory_or lacks old (edited limit old to x) in
-      o ≡ outcome_by_reply outcomes.Accepted r → new ≡ r.next → AreKept limit old m → AreKept limit new (motions_after o m)
-  after_by true x o new m e n k = subst (λ p. AreKept limit new (motions_after p m)) (sym e) (subst (λ (t : System). AreKept limit t m) (sym n) k)
-  after_by false (Err why) o new m e n k = subst (λ p. AreKept limit new (motions_after p m)) (sym e) (subst (λ (t : System). AreKept limit t m) (sym n) k)
-  after_by false (Ok levels) o new m e n k = subst (λ p. AreKept limit new (motions_after p m)) (sym e) tt
+      o ≡ outcome_by_reply outcomes.Accepted r → new ≡ r.next → AreKept limit old m → AreKept limit new (motions_after (Ok o) m)
+  after_by true x o new m e n k = subst (λ p. AreKept limit new (motions_after (Ok p) m)) (sym e) (subst (λ (t : System). AreKept limit t m) (sym n) k)
+  after_by false (Err why) o new m e n k = subst (λ p. AreKept limit new (motions_after (Ok p) m)) (sym e) (subst (λ (t : System). AreKept limit t m) (sym n) k)
+  after_by false (Ok levels) o new m e n k = subst (λ p. AreKept limit new (motions_after (Ok p) m)) (sym e) tt
 
-  pub after_step : {K : Type 0} (written : K → Option (List ℕ)) (faults : K → ℕ) (a b : K) (held : List ℕ) (new : System) (o : Outcome) (m : Option KeptMotions)
-      → WasLed written faults a b held limit old to new (Ok o) → AreKept limit old m → AreKept limit new (motions_after o m)
-  after_step written faults a b held new o m l k =
+  pub after_step : {K : Type 0} (written : K → Option (List ℕ)) (faults : K → ℕ) (a b : K) (held : List ℕ) (new : System) (result : Result Outcome Failed) (m : Option KeptMotions)
+      → WasLed written faults a b held limit old to new result → AreKept limit old m → AreKept limit new (motions_after result m)
+  after_step written faults a b held new (Ok o) m l k =
       after_by l.lacks (levels_of limit to) o new m (l.says.outcome ∙ ap (outcome_by_reply outcomes.Accepted) l.is) (l.next ∙ ap (λ (q : Reply). q.next) l.is) k
+  after_step written faults a b held new (Err failed) m l k = tt

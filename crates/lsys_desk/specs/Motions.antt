@@ -1,6 +1,7 @@
 -- What a desk keeps of the picture of the last level, and what it tells of it.
-use Rattle.std.specs.Prelude.{◌≡◌, ℕ, ℤ, Option, Some, None, Result, Ok, Err, List, ◌∷◌, ◌++◌, codes}
+use Rattle.std.specs.Prelude.{◌≡◌, ℕ, ℤ, Bool, true, false, not, Option, Some, None, Result, Ok, Err, List, ◌∷◌, ◌++◌, codes}
 use Rattle.std.specs.Fmt.{signed_decimal}
+use Rattle.lsys_io.specs.declared.Failed.{Failed}
 use Rattle.lsys_spec.specs.Systems.{System}
 use Rattle.lsys_spec.specs.Lattices.{Lattice}
 use Rattle.lsys_spec.specs.Levels.{LevelSymbol}
@@ -23,6 +24,7 @@ use Rattle.lsys_session.specs.Given.{picture_line}
 use Rattle.lsys_session.specs.Requests.{refusal_line}
 use Rattle.lsys_session.specs.declared.outcome.Outcome.{Outcome}
 use Rattle.lsys_session.specs.declared.outcome.Outcome.TheVariants as outcomes
+use Rattle.lsys_desk.specs.Answers.{is_accepted}
 use Rattle.lsys_desk.specs.declared.kept_motions.KeptMotions.{KeptMotions}
 use Rattle.lsys_desk.specs.declared.kept_motions.KeptMotions.TheVariants.{Square, Hexagonal, Cubic}
 
@@ -46,10 +48,14 @@ abbrev pub AreKept : ℕ → System → Option KeptMotions → Type 0
 AreKept limit s None = Unit {0}
 AreKept limit s (Some m) = IsTrackOf limit s (Ok (told_by m))
 
--- they are kept until an edit is accepted
-abbrev pub motions_after : Outcome → Option KeptMotions → Option KeptMotions
-motions_after outcomes.Accepted m = None
-motions_after o m = m
+-- the picture stays behind a step that wasn't accepted; where its reply wasn't put, nothing is known of it
+abbrev pub leaves_picture : Result Outcome Failed → Bool
+leaves_picture (Ok o) = not (is_accepted o)
+leaves_picture (Err failed) = false
+
+-- they are kept while the picture stays
+abbrev pub motions_after : Result Outcome Failed → Option KeptMotions → Option KeptMotions
+motions_after led m = elim (leaves_picture led) [ true ↦ m | false ↦ None ]
 
 -- 2. what is said of it
 

@@ -1,9 +1,10 @@
 -- What becomes of the systems that are kept where a desk goes from one to another.
-use Rattle.std.specs.Prelude.{◌≢◌, []}
+use Rattle.std.specs.Prelude.{◌≢◌, Bool, true, false, Result, Ok, Err, []}
+use Rattle.lsys_io.specs.declared.Failed.{Failed}
 use Rattle.lsys_spec.specs.Systems.{System}
 use Rattle.lsys_desks.specs.Timelines.{Timeline, after_edit, redone, after_undo}
 use Rattle.lsys_session.specs.declared.outcome.Outcome.{Outcome}
-use Rattle.lsys_session.specs.declared.outcome.Outcome.TheVariants.{Accepted}
+use Rattle.lsys_desk.specs.Answers.{is_accepted}
 use Rattle.lsys_desk.specs.declared.step.Step.{Step}
 use Rattle.lsys_desk.specs.declared.step.Step.TheVariants.{Edit, Undo, Redo}
 
@@ -19,7 +20,11 @@ steps_by Edit = after_edit
 steps_by Undo = after_undo
 steps_by Redo = redone
 
--- they change where the step is accepted
-abbrev pub steps_after : Outcome → Step → Timeline System → System → Timeline System
-steps_after Accepted step h s = steps_by step h s
-steps_after o step h s = h
+-- a step is taken where it was accepted, and the reply was put
+abbrev pub is_taken : Result Outcome Failed → Bool
+is_taken (Ok o) = is_accepted o
+is_taken (Err failed) = false
+
+-- they change where the step is taken
+abbrev pub steps_after : Result Outcome Failed → Step → Timeline System → System → Timeline System
+steps_after led step h s = elim (is_taken led) [ true ↦ steps_by step h s | false ↦ h ]

@@ -12,7 +12,7 @@ ghost use Rattle.lsys_desk.specs.Calls.{Replies, Serves, SaysBounds, ServesAt, K
 
 use crate::desk_line::{DeskLine, desk_line};
 use crate::growth_reply::answer_growth;
-use crate::kept_motions::{HasMotions, KeptMotions, motions_after};
+use crate::kept_motions::{HasMotions, KeptMotions, forget_motions};
 use crate::picture_reply::{answer_bounds, answer_place};
 use crate::sayings::say;
 use crate::step::{Step, take_step};
@@ -282,15 +282,42 @@ impl<L: Ledger, D: HasMotions<L>> Desk<L, D> {
         ensures counts { CountsStep D.visits D.limit_of D.system_of self asked visited true result }
         ensures leads { IfOk result (TellsLead (Some system)) }
     {
-        let Ok(present) = self.session.system().clone() else {
-            return refuse(out, sink, Refusal::Memory);
-        };
-        let motions = self.motions.take();
-        let outcome = self
+        let copied: Result<System, AllocError> = self.session.system().clone();
+        match copied {
+            Ok(present) => {
+                self.lead_from(alloc, step, present, system, out, sink, asked, visited)
+            }
+            Err(_) => refuse(out, sink, Refusal::Memory),
+        }
+    }
+
+    // Goes from the present system, of which this is a copy, to another one.
+    fn lead_from<K: Sink, V: Ledger>(
+        &mut self,
+        alloc: Global,
+        step: Step,
+        present: System,
+        system: System,
+        out: &mut Buffered,
+        sink: &mut K,
+        asked: &mut Steps<L>,
+        visited: &mut Steps<V>,
+    ) -> Result<Outcome, Failed>
+        requires empty { out.old ≡ [] }
+        requires there { LeadsSomewhere step self.old.steps }
+        requires present { present ≡ D.system_of self.old.derivation }
+        requires levels { HasLevels (D.limit_of self.old.derivation) present }
+        ensures gives { ServesStep step system K.Sink sink out D.limit_of D.system_of self result }
+        ensures limit { D.limit_of self.new.derivation ≡ D.limit_of self.old.derivation }
+        ensures kept { EachKept (HasLevels (D.limit_of self.new.derivation)) self.new.steps }
+        ensures counts { CountsStep D.visits D.limit_of D.system_of self asked visited true result }
+        ensures leads { IfOk result (TellsLead (Some system)) }
+    {
+        let led = self
             .session
-            .restore(alloc, system, out, sink, asked, visited)?;
-        self.motions = motions_after(outcome, motions);
-        take_step(&mut self.history, step, outcome, present);
-        Ok(outcome)
+            .restore(alloc, system, out, sink, asked, visited);
+        forget_motions(&mut self.motions, led);
+        take_step(&mut self.history, step, led, present);
+        led
     }
 }

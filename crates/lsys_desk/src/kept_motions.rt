@@ -4,9 +4,10 @@ ghost use Rattle.lsys_lattice.specs.Wide.{extents_of};
 ghost use Rattle.lsys_out.specs.Nesting.{HasLast};
 ghost use Rattle.lsys_motion.specs.Told.{told};
 ghost use Rattle.lsys_session.specs.Given.{IsWellUnder};
-ghost use Rattle.lsys_desk.specs.Motions.{AreKept, IsTrackOf, motions_after, told_by, told_in, AreMotionsOn};
+ghost use Rattle.lsys_desk.specs.Motions.{AreKept, IsTrackOf, leaves_picture, motions_after, told_by, told_in, AreMotionsOn};
 ghost use Rattle.lsys_desk.specs.Calls.{HasItsLevels};
 
+use lsys_io::Failed;
 use lsys_lattice::{Cubic, Extents, Hexagonal, Lattice, Square};
 use lsys_match::Derivation;
 use lsys_motion::{MotionRefusal, Motions};
@@ -76,14 +77,22 @@ pub(crate) fn take_motions<L: Ledger, D: HasMotions<L>>(
     }
 }
 
-/// What is kept behind an edit with this outcome.
-pub(crate) fn motions_after(outcome: Outcome, kept: Option<KeptMotions>) -> Option<KeptMotions>
-    ensures { result ≡ motions_after outcome kept }
+/// Forgets the motions behind a step that was answered so, unless the picture stays.
+pub(crate) fn forget_motions(kept: &mut Option<KeptMotions>, led: Result<Outcome, Failed>)
+    ensures { kept.new ≡ motions_after led kept.old }
 {
-    if outcome == Outcome::Accepted {
-        None
-    } else {
-        kept
+    if !leaves_picture(led) {
+        *kept = None;
+    }
+}
+
+// Whether the picture stays behind a step that was answered so.
+fn leaves_picture(led: Result<Outcome, Failed>) -> bool
+    ensures { result ≡ leaves_picture led }
+{
+    match led {
+        Ok(outcome) => outcome != Outcome::Accepted,
+        Err(Failed) => false,
     }
 }
 

@@ -1,8 +1,9 @@
 //! Which way a desk goes from one system to another.
 ghost use Rattle.std.specs.Prelude.{◌≡◌};
-ghost use Rattle.lsys_desk.specs.Steps.{LeadsSomewhere, steps_after};
+ghost use Rattle.lsys_desk.specs.Steps.{LeadsSomewhere, is_taken, steps_after, steps_by};
 
 use lsys_desks::History;
+use lsys_io::Failed;
 use lsys_rules::System;
 use lsys_session::Outcome;
 
@@ -17,19 +18,36 @@ pub(crate) enum Step {
     Redo,
 }
 
-/// Takes a step away from the present system, where the one that it leads to was accepted.
+/// Takes a step away from the present system, where the one that it leads to was accepted and its reply was put.
 pub(crate) fn take_step(
     history: &mut History<System>,
     step: Step,
-    outcome: Outcome,
+    led: Result<Outcome, Failed>,
     present: System,
 )
     requires { LeadsSomewhere step history.old }
-    ensures { history.new ≡ steps_after outcome step history.old present }
+    ensures { history.new ≡ steps_after led step history.old present }
 {
-    if outcome != Outcome::Accepted {
-        return;
+    if is_taken(led) {
+        step_away(history, step, present);
     }
+}
+
+// Whether a step is taken that was answered so.
+fn is_taken(led: Result<Outcome, Failed>) -> bool
+    ensures { result ≡ is_taken led }
+{
+    match led {
+        Ok(outcome) => outcome == Outcome::Accepted,
+        Err(Failed) => false,
+    }
+}
+
+// Takes a step away from the present system.
+fn step_away(history: &mut History<System>, step: Step, present: System)
+    requires { LeadsSomewhere step history.old }
+    ensures { history.new ≡ steps_by step history.old present }
+{
     match step {
         Step::Edit => history.keep(present),
         Step::Undo => {

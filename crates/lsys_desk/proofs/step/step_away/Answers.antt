@@ -1,6 +1,6 @@
 use Rattle.std.proofs.Common.{rules, arith}
 use Rattle.std.proofs.lemmas.Grind.{elements}
-use Rattle.lsys_desk.proofs.step.take_step.Goals as goal
+use Rattle.lsys_desk.proofs.step.step_away.Goals as goal
 
 pub returns-in-Edit : goal.returns-in-Edit
 returns-in-Edit c = grind (arith, elements)
