@@ -21,7 +21,7 @@ use Rattle.lsys_rules.specs.Parsing.{IsParsedLine}
 use Rattle.lsys_rules.specs.Applying.{IsToldAt}
 use Rattle.lsys_rules.specs.declared.refusal.Refusal.{Refusal}
 use Rattle.lsys_rules.specs.declared.refusal.Refusal.TheVariants as refusals
-use Rattle.lsys_session.specs.Requests.{IsCommandIn, IsRequested, IsRequest, IsAskedBy, HasLevel}
+use Rattle.lsys_session.specs.Requests.{IsCommandIn, IsRequested, IsRequest, IsAskedBy, HasLevel, request_by}
 use Rattle.lsys_session.specs.declared.request.Request.{Request}
 use Rattle.lsys_session.specs.declared.request.Request.TheVariants.{Nothing, String}
 
@@ -119,6 +119,25 @@ level_there s c None e h = tt
 level_there s c (Some n) e h =
     let passed : nat_lt s.depth n ≡ false = below (nat_lt s.depth n) edits.wrong_level 1 (subst (λ d. edits.refusal s d ≡ None) e h) in
     grind (arith, nat_tests, passed)
+
+-- the command of a kind, and what it asks
+module _ (s : spec.System) (c : CommandLine) (next : spec.System) where
+  abbrev spelled : Command
+  spelled = command_of c.tokens
+
+  pub requested_so : (k : CommandKind) → kind_of_command spelled ≡ k → edits.refusal s spelled ≡ None → next ≡ edits.changed s spelled → IsRequested s c (Ok (request_by k next))
+  requested_so kinds.Edit is unrefused e = (
+    unrefused,
+    λ limit. edit_asked limit s spelled is ∙ ap (λ next. edited limit s next (levels_of limit next)) (sym e),
+    tt,
+    (spelled, refl, of_kind spelled kinds.Edit is, unrefused, e),
+  )
+  requested_so (kinds.String t) is unrefused e =
+      let one = of_kind spelled (kinds.String t) is in (unrefused, λ limit. ap (accepted limit s) one, level_there s spelled t one unrefused, (spelled, refl, ap is_query one))
+  requested_so kinds.Segments is unrefused e = let one = of_kind spelled kinds.Segments is in (unrefused, λ limit. ap (accepted limit s) one, tt, (spelled, refl, ap is_query one))
+  requested_so kinds.Svg is unrefused e = let one = of_kind spelled kinds.Svg is in (unrefused, λ limit. ap (accepted limit s) one, tt, (spelled, refl, ap is_query one))
+  requested_so kinds.Show is unrefused e = let one = of_kind spelled kinds.Show is in (unrefused, λ limit. ap (accepted limit s) one, tt, (spelled, refl, ap is_query one))
+  requested_so kinds.Quit is unrefused e = let one = of_kind spelled kinds.Quit is in (unrefused, λ limit. ap (accepted limit s) one, tt, (spelled, refl, ap is_query one))
 
 -- 3. the whole line
 

@@ -1,5 +1,5 @@
 -- What a line asks of a system, and what it is answered.
-use Rattle.std.specs.Prelude.{◌≡◌, ◌≤◌, ◌++◌, ◌∷◌, decimal, ℕ, Option, Some, None, Result, Ok, Err, List, [], codes, length, map, true, false}
+use Rattle.std.specs.Prelude.{◌≡◌, ◌≤◌, ◌++◌, ◌∷◌, decimal, ℕ, Option, Some, None, Result, Ok, Err, List, [], codes, length, map, true, false, unwrap_or}
 use Rattle.lsys_syntax.specs.Tokens.{tokens}
 use Rattle.lsys_syntax.specs.LineMachine.{sentence, verdict}
 use Rattle.lsys_spec.specs.Systems as spec
@@ -17,6 +17,8 @@ use Rattle.lsys_syntax.specs.Commands.{Command}
 use Rattle.lsys_spec.specs.Replies.{shown, string_line, levels_of, picture_of, edited, accepted, tokens_reply, bare_reply, bare_spelled, is_query}
 use Rattle.lsys_text.specs.Tokens.{kind_row, token_of}
 use Rattle.lsys_reading.specs.Parted.{command_of}
+use Rattle.lsys_reading.specs.declared.command.CommandKind.{CommandKind}
+use Rattle.lsys_reading.specs.declared.command.CommandKind.TheVariants as kinds
 use Rattle.lsys_rules.specs.Lines.{CommandLine}
 use Rattle.lsys_rules.specs.Applying.{IsEditRefusal}
 use Rattle.lsys_rules.specs.declared.refusal.Refusal.{Refusal}
@@ -87,6 +89,19 @@ abbrev pub count_text : EditCount → List ℕ
 count_text c = codes "ok " ++ (decimal c.asked ++ 47 ∷ (decimal c.questions ++ line_feed))
 
 -- 2. requests
+
+-- what a command of this kind asks that changes nothing
+abbrev pub query_by : CommandKind → Option Request
+query_by kinds.Edit = None
+query_by (kinds.String t) = Some (String t)
+query_by kinds.Segments = Some Segments
+query_by kinds.Svg = Some Svg
+query_by kinds.Show = Some Show
+query_by kinds.Quit = Some Quit
+
+-- what a command of this kind asks that makes this of a system
+abbrev pub request_by : CommandKind → spec.System → Request
+request_by kind next = unwrap_or (query_by kind) (Edit next)
 
 -- the reply to what a line asks, where it isn't refused for want of memory
 abbrev pub reply_to : ℕ → spec.System → Request → Reply

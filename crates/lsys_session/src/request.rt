@@ -1,7 +1,7 @@
 //! What a line asks of a system.
-ghost use Rattle.std.specs.Prelude.{◌≤◌, length};
+ghost use Rattle.std.specs.Prelude.{◌≡◌, ◌≤◌, length};
 ghost use Rattle.lsys_syntax.specs.Limits.{most_line_bytes};
-ghost use Rattle.lsys_session.specs.Requests.{IsCommandIn, IsRequest, IsRequested};
+ghost use Rattle.lsys_session.specs.Requests.{IsCommandIn, IsRequest, IsRequested, query_by, request_by};
 
 use crate::line::is_without_command;
 use lsys_rules::{Command, CommandKind, Refusal, System, apply, parse_command};
@@ -62,12 +62,29 @@ fn requested(alloc: Global, system: &System, command: &Command) -> Result<Reques
     ensures { IsRequested system.now command.now result }
 {
     let next = apply(alloc, system, command)?;
-    match command.kind() {
-        CommandKind::Edit => Ok(Request::Edit(next)),
-        CommandKind::String { level } => Ok(Request::String { level }),
-        CommandKind::Segments => Ok(Request::Segments),
-        CommandKind::Svg => Ok(Request::Svg),
-        CommandKind::Show => Ok(Request::Show),
-        CommandKind::Quit => Ok(Request::Quit),
+    Ok(request_by(command.kind(), next))
+}
+
+// What a command of this kind asks that makes this of a system.
+fn request_by(kind: CommandKind, next: System) -> Request
+    ensures { result ≡ request_by kind next }
+{
+    match query_by(kind) {
+        Some(query) => query,
+        None => Request::Edit(next),
+    }
+}
+
+// What a command of this kind asks that changes nothing.
+fn query_by(kind: CommandKind) -> Option<Request>
+    ensures { result ≡ query_by kind }
+{
+    match kind {
+        CommandKind::Edit => None,
+        CommandKind::String { level } => Some(Request::String { level }),
+        CommandKind::Segments => Some(Request::Segments),
+        CommandKind::Svg => Some(Request::Svg),
+        CommandKind::Show => Some(Request::Show),
+        CommandKind::Quit => Some(Request::Quit),
     }
 }
