@@ -11,15 +11,17 @@ use Rattle.lsys_io.specs.declared.lines.Stage.{Stage}
 use Rattle.lsys_io.specs.declared.lines.Stage.TheVariants as stages
 use Rattle.lsys_io.specs.declared.lines.LineRead.{LineRead}
 use Rattle.lsys_io.specs.declared.lines.LineRead.TheVariants as reads
-use Rattle.lsys_io.specs.LineAnswers.{OnEnd, OnLine, OnLong, OnNoEnd}
+use Rattle.lsys_io.specs.declared.lines.LineRefusal.{LineRefusal}
+use Rattle.lsys_io.specs.declared.lines.LineRefusal.TheVariants as refusals
+use Rattle.lsys_io.specs.Causes.{Rose}
+use Rattle.lsys_io.specs.LineAnswers.{OnEnd, OnLine, OnLong, OnNoEnd, OnNoFault, OnReadFault, OnTooLong}
 use Rattle.lsys_desks.specs.Desks.{Desk, opening_desk}
 use Rattle.lsys_spec.specs.Costs.{Visits}
 use Rattle.lsys_session.specs.Answers.{Counters}
 use Rattle.lsys_cli.specs.Ends.{Ends, RunView}
 use Rattle.lsys_session.specs.Answers.{refuses, lacks_memory, ends_session}
-use Rattle.lsys_cli.specs.Runs.{AnswersRead, CountsRead, status_of}
+use Rattle.lsys_cli.specs.Runs.{AnswersRead, CountsRead, status_of, unread}
 use Rattle.lsys_session.specs.declared.outcome.Outcome.{Outcome}
-use Rattle.lsys_session.specs.declared.outcome.Outcome.TheVariants as outcomes
 use Rattle.lsys_cli.specs.declared.status.Status.TheVariants.{ReadFault, WriteFault, TooLong}
 use Rattle.lsys_cli.proofs.Replying.{Replied, Broke, told_line, told_broke, long_line, long_broke}
 use Rattle.lsys_cli.proofs.SoFar.{Running, Finished, begin, line_more, line_last, quit_within, quit_last, no_more}
@@ -168,7 +170,7 @@ past_at visits limit None rest left w now d refused memory taken k small p = of_
 past_at visits limit (Some script) None left w now d refused memory taken k small p = absurd k
 past_at visits limit (Some script) (Some rest) left w now d refused memory taken k small p = of_too_long visits limit (Some script) left w now (past_limit visits limit script rest w now d refused memory taken k small p)
 
-pub too_long : (visits : Visits) (limit : ℕ) (script lo ln : Option (List ℕ)) (w now : RunView) (old : LineReading) (d : Desk) (refused memory : Bool) → old.stage ≡ stages.Going → old.taken ≤ most_script_bytes
+too_long : (visits : Visits) (limit : ℕ) (script lo ln : Option (List ℕ)) (w now : RunView) (old : LineReading) (d : Desk) (refused memory : Bool) → old.stage ≡ stages.Going → old.taken ≤ most_script_bytes
     → SoFar visits limit script old.stage (remaining old lo) w now d refused memory old.taken → IfSome (remaining old lo) (PassesLimit old.taken) → Ends visits limit script ln w now TooLong
 too_long visits limit script lo ln w now old d refused memory e small k p =
     past_at visits limit script (remaining old lo) ln w now d refused memory old.taken (going visits limit script w now old lo d refused memory e k) small p
@@ -183,13 +185,32 @@ fault_at visits limit (Some script) (Some left) (Some left') w now held given d 
     of_read_fault visits limit (Some script) (Some left') w now (read_fault_at visits limit script (held ++ left) (Some left') w now d refused memory taken k (held ++ given)
     (ap (λ t. held ++ t) c ∙ sym (append_assoc held given left')) n small)
 
-pub read_fault : (visits : Visits) (limit : ℕ) (script lo ln : Option (List ℕ)) (w now : RunView) (old : LineReading) (d : Desk) (refused memory : Bool) → old.stage ≡ stages.Going
+read_fault : (visits : Visits) (limit : ℕ) (script lo ln : Option (List ℕ)) (w now : RunView) (old : LineReading) (d : Desk) (refused memory : Bool) → old.stage ≡ stages.Going
     → SoFar visits limit script old.stage (remaining old lo) w now d refused memory old.taken → LeavesNoLine old lo ln → Ends visits limit script ln w now ReadFault
 read_fault visits limit script lo ln w now old d refused memory e k h =
     let is : remaining old lo ≡ prepend_known old.held lo =
     ap (λ (st : Stage). elim st [ stages.Going ↦ prepend_known old.held lo | stages.Ended ↦ Some [] | stages.Refused refusal ↦ prepend_known old.held lo ]) e in
     let P : Option (List ℕ) → Type 0 = λ r. SoFar visits limit script stages.Going r w now d refused memory old.taken in
     fault_at visits limit script lo ln w now old.held h.given d refused memory old.taken (subst P is (going visits limit script w now old lo d refused memory e k)) h.taken h.no_lf h.within
+
+-- a line that can't be had
+pub unread_ends : (visits : Visits) (limit : ℕ) (script lo ln : Option (List ℕ)) (w now : RunView) (old : LineReading) (d : Desk) (refused memory : Bool) (refusal : LineRefusal) → old.stage ≡ stages.Going
+    → old.taken ≤ most_script_bytes → SoFar visits limit script old.stage (remaining old lo) w now d refused memory old.taken → OnReadFault (Err refusal) (LeavesNoLine old lo ln)
+    → OnTooLong (Err refusal) (IfSome (remaining old lo) (PassesLimit old.taken)) → Ends visits limit script ln w now (unread refusal)
+unread_ends visits limit script lo ln w now old d refused memory refusals.ReadFault e small k fault long = read_fault visits limit script lo ln w now old d refused memory e k fault
+unread_ends visits limit script lo ln w now old d refused memory refusals.TooLong e small k fault long = too_long visits limit script lo ln w now old d refused memory e small k long
+
+pub unread_rose : (refusal : LineRefusal) (first before after : ℕ) → before ≡ first → OnReadFault (Err refusal) (Rose before after) → unread refusal ≡ ReadFault → Rose first after
+unread_rose refusals.ReadFault first before after e rose is = subst (λ n. Rose n after) e rose
+unread_rose refusals.TooLong first before after e rose is = cc
+
+pub unread_stayed : (refusal : LineRefusal) (first before after : ℕ) → before ≡ first → OnNoFault (Err refusal) (after ≡ before) → unread refusal ≢ ReadFault → after ≡ first
+unread_stayed refusals.ReadFault first before after e same away = absurd (away refl)
+unread_stayed refusals.TooLong first before after e same away = same ∙ e
+
+pub unread_writes : {P : Type 0} (refusal : LineRefusal) → unread refusal ≡ WriteFault → P
+unread_writes refusals.ReadFault is = cc
+unread_writes refusals.TooLong is = cc
 
 stuck_at : (visits : Visits) (limit : ℕ) (script rest rest' left : Option (List ℕ)) (w now now' : RunView) (d : Desk) (refused memory : Bool) (taken : ℕ) (line : List ℕ)
     → SoFar visits limit script stages.Going rest w now d refused memory taken → HasFirstLine rest rest' line → Broke limit d line now.written now'.written → Ends visits limit script left w now' WriteFault
@@ -228,14 +249,6 @@ begins_going reader e = let P : LineReading → Type 0 = λ r. IsNotRefused r.st
 
 pub begins_within : (reader : LineReading) → reader ≡ fresh → reader.taken ≤ most_script_bytes
 begins_within reader e = let P : LineReading → Type 0 = λ r. r.taken ≤ most_script_bytes in subst P (sym e) (omega arith)
-
-pub no_end : (o : Outcome) → o ≢ outcomes.Quit → ends_session o ≡ false
-no_end outcomes.Skipped q = refl
-no_end outcomes.Accepted q = refl
-no_end outcomes.Printed q = refl
-no_end outcomes.Refused q = refl
-no_end outcomes.Memory q = refl
-no_end outcomes.Quit q = absurd (q refl)
 
 -- a line leaves the reader going, or at the end
 pub read_goes_on : (read : LineRead) (old new : LineReading) (lo ln : Option (List ℕ)) → read ≢ reads.End → OnLine (Ok read) (ToldLine old new lo ln) → OnLong (Ok read) (LongLine old new lo ln) → IsNotRefused new.stage

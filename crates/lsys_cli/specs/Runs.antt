@@ -4,6 +4,8 @@ use Rattle.std.specs.declared.option.Option.{Option}
 use Rattle.lsys_io.specs.declared.Failed.{Failed}
 use Rattle.lsys_io.specs.declared.lines.LineRead.{LineRead}
 use Rattle.lsys_io.specs.declared.lines.LineRead.TheVariants as reads
+use Rattle.lsys_io.specs.declared.lines.LineRefusal.{LineRefusal}
+use Rattle.lsys_io.specs.declared.lines.LineRefusal.TheVariants as lines
 use Rattle.lsys_spec.specs.Refusals.{refused}
 use Rattle.lsys_spec.specs.Costs.{Visits}
 use Rattle.lsys_desks.specs.Desks.{Desk}
@@ -15,13 +17,18 @@ use Rattle.lsys_rules.specs.declared.refusal.Refusal.TheVariants as refusals
 use Rattle.lsys_session.specs.declared.outcome.Outcome.{Outcome}
 use Rattle.lsys_session.specs.declared.outcome.Outcome.TheVariants as outcomes
 use Rattle.lsys_cli.specs.declared.status.Status.{Status}
-use Rattle.lsys_cli.specs.declared.status.Status.TheVariants.{Done, Refused, Memory}
+use Rattle.lsys_cli.specs.declared.status.Status.TheVariants.{Done, Refused, ReadFault, Memory, TooLong}
 
 -- Memory goes before Refused.
 abbrev pub status_of : Bool → Bool → Status
 status_of refused true = Memory
 status_of true false = Refused
 status_of false false = Done
+
+-- the status of a run whose next line can't be had
+abbrev pub unread : LineRefusal → Status
+unread lines.ReadFault = ReadFault
+unread lines.TooLong = TooLong
 
 -- the line is refused as too long, and changes nothing
 pub record AnswersLong {K : Type 0} (written : K → Option (List ℕ)) (faults : K → ℕ) (sink_old sink_new : K) (held : List ℕ) (old new : Desk) (result : Result Outcome Failed) : Type 0 where

@@ -3,8 +3,8 @@ ghost use Rattle.std.specs.Prelude.{◌≡◌, [], ◌≢◌, ◌||◌, false, O
 ghost use Rattle.lsys_io.specs.declared.lines.Stage.TheVariants.{Going};
 ghost use Rattle.lsys_desk.specs.Views.{desk_on};
 ghost use Rattle.lsys_desks.specs.Desks.{opening_desk};
-ghost use Rattle.lsys_session.specs.Answers.{refuses, lacks_memory};
-ghost use Rattle.lsys_cli.specs.Runs.{status_of};
+ghost use Rattle.lsys_session.specs.Answers.{ends_session, refuses, lacks_memory};
+ghost use Rattle.lsys_cli.specs.Runs.{status_of, unread};
 ghost use Rattle.lsys_io.specs.Calls.{HasRisen, HasStayed};
 ghost use Rattle.lsys_cli.specs.Calls.{RunsAt, Heeds, CountsIt};
 
@@ -86,8 +86,7 @@ pub fn run<S: Source, K: Sink, L: Ledger, V: Ledger, D: HasMotions<L> + Drop>(
     'lines: loop {
         let read = match reader.next_line(source) {
             Ok(read) => read,
-            Err(LineRefusal::ReadFault) => return Status::ReadFault,
-            Err(LineRefusal::TooLong) => return Status::TooLong,
+            Err(refusal) => return unread(refusal),
         };
         if read == LineRead::End {
             return tally.status();
@@ -97,10 +96,27 @@ pub fn run<S: Source, K: Sink, L: Ledger, V: Ledger, D: HasMotions<L> + Drop>(
             return Status::WriteFault;
         };
         tally = tally.with(outcome);
-        if outcome == Outcome::Quit {
+        if ends_session(outcome) {
             return tally.status();
         }
     }
+}
+
+// The status of a run whose next line can't be had.
+fn unread(refusal: LineRefusal) -> Status
+    ensures { result ≡ unread refusal }
+{
+    match refusal {
+        LineRefusal::ReadFault => Status::ReadFault,
+        LineRefusal::TooLong => Status::TooLong,
+    }
+}
+
+// Whether the session ends with this outcome.
+fn ends_session(outcome: Outcome) -> bool
+    ensures { result ≡ ends_session outcome }
+{
+    outcome == Outcome::Quit
 }
 
 /// Answers a line that was read, and puts the reply.

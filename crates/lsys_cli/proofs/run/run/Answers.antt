@@ -1,12 +1,10 @@
-use Rattle.std.proofs.Common.{arith, ◌≡◌, ◌≢◌, rules, ◌∙◌, refl, ap, sym, subst}
+use Rattle.std.proofs.Common.{arith, ◌≡◌, ◌≢◌, rules, ◌∙◌, refl, sym, subst}
 use Rattle.std.proofs.lemmas.Grind.{common_steps}
 use Rattle.lsys_io.specs.declared.lines.LineRead.TheVariants.{End}
 use Rattle.lsys_io.specs.Reading.{remaining}
 use Rattle.lsys_cli.specs.Ends.{Ends, seen}
-use Rattle.lsys_session.specs.Answers.{ends_session}
 use Rattle.lsys_desk.specs.Views.{desk_on}
-use Rattle.lsys_session.specs.declared.outcome.Outcome.TheVariants.{Quit}
-use Rattle.lsys_cli.proofs.Turns.{begins, begins_going, begins_within, turned, stuck, goes_on, quits, too_long, read_fault, write_fault, no_end, read_goes_on, unless_end, at_end, ends}
+use Rattle.lsys_cli.proofs.Turns.{begins, begins_going, begins_within, turned, stuck, goes_on, quits, write_fault, read_goes_on, unless_end, unread_ends, unread_rose, unread_stayed, unread_writes, at_end, ends}
 use Rattle.lsys_cli.proofs.run.run.Goals as goal
 
 pub lines-init : goal.lines-init
@@ -21,19 +19,33 @@ lines-init g c = record {
   sink = refl;
 }
 
-pub returns-in-Err-ReadFault-clause-ends : goal.returns-in-Err-ReadFault-clause-ends
-returns-in-Err-ReadFault-clause-ends g c =
-    let going = c.in-Err-ReadFault.ensures.was_going c.lines.invariant.going in
-    read_fault g.D.Derivation.visits (g.D.Derivation.limit_of c.args.desk.now.derivation) (g.S.Source.left c.args.source.now) (g.S.Source.left c.lines.source) (g.S.Source.left c.next_line.new.source)
-    (seen g.K.Sink.written c.args.sink.now c.args.asked.now c.args.visited.now) (seen g.K.Sink.written c.lines.sink c.lines.asked c.lines.visited) c.lines.reader (desk_on g.D.Derivation.system_of c.lines.desk) c.lines.tally.refused c.lines.tally.memory
-    going c.lines.invariant.far (rw c.in-Err-ReadFault.field-0-is at (c.in-Err-ReadFault.ensures.read_fault_leaves_no_line going))
+pub returns-in-Err-clause-ends : goal.returns-in-Err-clause-ends
+returns-in-Err-clause-ends g c =
+    let going = c.in-Err.ensures.was_going c.lines.invariant.going in
+    let limit = g.D.Derivation.limit_of c.args.desk.now.derivation in
+    let script = g.S.Source.left c.args.source.now in
+    let left = g.S.Source.left c.next_line.new.source in
+    let start = seen g.K.Sink.written c.args.sink.now c.args.asked.now c.args.visited.now in
+    let now = seen g.K.Sink.written c.lines.sink c.lines.asked c.lines.visited in
+    subst (Ends g.D.Derivation.visits limit script left start now) (sym c.unread.ensures)
+    (unread_ends g.D.Derivation.visits limit script (g.S.Source.left c.lines.source) left start now c.lines.reader (desk_on g.D.Derivation.system_of c.lines.desk) c.lines.tally.refused c.lines.tally.memory c.in-Err.refusal
+    going c.lines.invariant.within c.lines.invariant.far (c.in-Err.ensures.read_fault_leaves_no_line going) (c.in-Err.ensures.too_long_only_past_limit going))
 
-pub returns-in-Err-TooLong-clause-ends : goal.returns-in-Err-TooLong-clause-ends
-returns-in-Err-TooLong-clause-ends g c =
-    let going = c.in-Err-TooLong.ensures.was_going c.lines.invariant.going in
-    too_long g.D.Derivation.visits (g.D.Derivation.limit_of c.args.desk.now.derivation) (g.S.Source.left c.args.source.now) (g.S.Source.left c.lines.source) (g.S.Source.left c.next_line.new.source)
-    (seen g.K.Sink.written c.args.sink.now c.args.asked.now c.args.visited.now) (seen g.K.Sink.written c.lines.sink c.lines.asked c.lines.visited) c.lines.reader (desk_on g.D.Derivation.system_of c.lines.desk) c.lines.tally.refused c.lines.tally.memory
-    going c.lines.invariant.within c.lines.invariant.far (rw c.in-Err-TooLong.field-0-is at (c.in-Err-TooLong.ensures.too_long_only_past_limit going))
+pub returns-in-Err-clause-read_fault_only_where_rose : goal.returns-in-Err-clause-read_fault_only_where_rose
+returns-in-Err-clause-read_fault_only_where_rose g c = λ is.
+    unread_rose c.in-Err.refusal (g.S.Source.faults c.args.source.now) (g.S.Source.faults c.lines.source) (g.S.Source.faults c.next_line.new.source) c.lines.invariant.source
+    (c.in-Err.ensures.read_fault_only_where_rose (c.in-Err.ensures.was_going c.lines.invariant.going)) (sym c.unread.ensures ∙ is)
+
+pub returns-in-Err-clause-write_fault_only_where_rose : goal.returns-in-Err-clause-write_fault_only_where_rose
+returns-in-Err-clause-write_fault_only_where_rose g c = λ is. unread_writes c.in-Err.refusal (sym c.unread.ensures ∙ is)
+
+pub returns-in-Err-clause-no_read_fault_passed_over : goal.returns-in-Err-clause-no_read_fault_passed_over
+returns-in-Err-clause-no_read_fault_passed_over g c = λ away.
+    unread_stayed c.in-Err.refusal (g.S.Source.faults c.args.source.now) (g.S.Source.faults c.lines.source) (g.S.Source.faults c.next_line.new.source) c.lines.invariant.source
+    c.in-Err.ensures.else_leaves_count (λ is. away (c.unread.ensures ∙ is))
+
+pub returns-in-Err-clause-no_write_fault_passed_over : goal.returns-in-Err-clause-no_write_fault_passed_over
+returns-in-Err-clause-no_write_fault_passed_over g c = λ away. c.lines.invariant.sink
 
 pub returns-then-eq-clause-ends : goal.returns-then-eq-clause-ends
 returns-then-eq-clause-ends g c =
@@ -58,10 +70,9 @@ returns-in_default-clause-ends g c =
     (seen g.K.Sink.written c.args.sink.now c.args.asked.now c.args.visited.now) (seen g.K.Sink.written c.lines.sink c.lines.asked c.lines.visited) (seen g.K.Sink.written c.answer_line.new.sink c.answer_line.new.asked c.answer_line.new.visited) c.lines.reader c.next_line.new.self (desk_on g.D.Derivation.system_of c.lines.desk)
     c.lines.tally.refused c.lines.tally.memory c.lines.invariant.limit going c.lines.invariant.far broke
 
-pub returns-then-eq-2-clause-ends : goal.returns-then-eq-2-clause-ends
-returns-then-eq-2-clause-ends g c =
+pub returns-then-ends_session-clause-ends : goal.returns-then-ends_session-clause-ends
+returns-then-ends_session-clause-ends g c =
     let not_end : c.in-Ok.read ≢ End = search rules in
-    let quit : c.in-Ok-answer_line.outcome ≡ Quit = search rules in
     let going = unless_end c.in-Ok.read not_end (c.in-Ok.ensures.was_going c.lines.invariant.going) in
     let turn = turned g.K.Sink.written g.K.Sink.faults c.lines.sink c.answer_line.new.sink c.answer_line.new.out c.in-Ok.read g.D.Derivation.visits (g.D.Derivation.limit_of c.lines.desk.derivation) c.lines.reader c.next_line.new.self
     (g.S.Source.left c.lines.source) (g.S.Source.left c.next_line.new.source) (desk_on g.D.Derivation.system_of c.lines.desk) (desk_on g.D.Derivation.system_of c.answer_line.new.desk) c.line.result.now c.in-Ok-answer_line.outcome
@@ -70,14 +81,13 @@ returns-then-eq-2-clause-ends g c =
     let done = quits g.D.Derivation.visits (g.D.Derivation.limit_of c.args.desk.now.derivation) (g.D.Derivation.limit_of c.lines.desk.derivation) (g.S.Source.left c.args.source.now) (g.S.Source.left c.lines.source) (g.S.Source.left c.next_line.new.source)
     (seen g.K.Sink.written c.args.sink.now c.args.asked.now c.args.visited.now) (seen g.K.Sink.written c.lines.sink c.lines.asked c.lines.visited) (seen g.K.Sink.written c.answer_line.new.sink c.answer_line.new.asked c.answer_line.new.visited) c.lines.reader c.next_line.new.self (desk_on g.D.Derivation.system_of c.lines.desk) (desk_on g.D.Derivation.system_of c.answer_line.new.desk)
     c.lines.tally.refused c.lines.tally.memory c.with-tally.result.refused c.with-tally.result.memory c.in-Ok-answer_line.outcome c.lines.invariant.limit going c.next_line.ensures.within
-    c.with-tally.ensures.refused c.with-tally.ensures.memory c.lines.invariant.far turn (ap ends_session quit) in
+    c.with-tally.ensures.refused c.with-tally.ensures.memory c.lines.invariant.far turn (sym c.ends_session.ensures ∙ c.if-ends_session.true) in
     subst (Ends g.D.Derivation.visits (g.D.Derivation.limit_of c.args.desk.now.derivation) (g.S.Source.left c.args.source.now) (g.S.Source.left c.next_line.new.source) (seen g.K.Sink.written c.args.sink.now c.args.asked.now c.args.visited.now) (seen g.K.Sink.written c.answer_line.new.sink c.answer_line.new.asked c.answer_line.new.visited))
-    (sym c.status-then-eq-2.ensures) done
+    (sym c.status-then-ends_session.ensures) done
 
 pub lines-preserved : goal.lines-preserved
 lines-preserved g c =
     let not_end : c.in-Ok.read ≢ End = search rules in
-    let not_quit : c.in-Ok-answer_line.outcome ≢ Quit = search rules in
     let going = unless_end c.in-Ok.read not_end (c.in-Ok.ensures.was_going c.lines.invariant.going) in
     let turn = turned g.K.Sink.written g.K.Sink.faults c.lines.sink c.answer_line.new.sink c.answer_line.new.out c.in-Ok.read g.D.Derivation.visits (g.D.Derivation.limit_of c.lines.desk.derivation) c.lines.reader c.next_line.new.self
     (g.S.Source.left c.lines.source) (g.S.Source.left c.next_line.new.source) (desk_on g.D.Derivation.system_of c.lines.desk) (desk_on g.D.Derivation.system_of c.answer_line.new.desk) c.line.result.now c.in-Ok-answer_line.outcome
@@ -87,7 +97,7 @@ lines-preserved g c =
       far = goes_on g.D.Derivation.visits (g.D.Derivation.limit_of c.args.desk.now.derivation) (g.D.Derivation.limit_of c.lines.desk.derivation) (g.S.Source.left c.args.source.now) (g.S.Source.left c.lines.source) (g.S.Source.left c.next_line.new.source)
           (seen g.K.Sink.written c.args.sink.now c.args.asked.now c.args.visited.now) (seen g.K.Sink.written c.lines.sink c.lines.asked c.lines.visited) (seen g.K.Sink.written c.answer_line.new.sink c.answer_line.new.asked c.answer_line.new.visited) c.lines.reader c.next_line.new.self (desk_on g.D.Derivation.system_of c.lines.desk) (desk_on g.D.Derivation.system_of c.answer_line.new.desk)
           c.lines.tally.refused c.lines.tally.memory c.with-tally.result.refused c.with-tally.result.memory c.in-Ok-answer_line.outcome c.lines.invariant.limit going c.next_line.ensures.within
-          c.with-tally.ensures.refused c.with-tally.ensures.memory c.lines.invariant.far turn (no_end c.in-Ok-answer_line.outcome not_quit);
+          c.with-tally.ensures.refused c.with-tally.ensures.memory c.lines.invariant.far turn (sym c.ends_session.ensures ∙ c.if-ends_session.false);
       limit = c.answer_line.ensures.limit ∙ c.lines.invariant.limit;
       empty = c.answer_line.ensures.empty;
       going = read_goes_on c.in-Ok.read c.lines.reader c.next_line.new.self (g.S.Source.left c.lines.source) (g.S.Source.left c.next_line.new.source) not_end c.in-Ok.ensures.line c.in-Ok.ensures.long;
@@ -95,9 +105,6 @@ lines-preserved g c =
       source = c.in-Ok.ensures.else_leaves_count ∙ c.lines.invariant.source;
       sink = c.in-Ok-answer_line.ensures.ok_leaves_count ∙ c.lines.invariant.sink;
     }
-
-pub returns-in-Err-TooLong-clause-read_fault_only_where_rose : goal.returns-in-Err-TooLong-clause-read_fault_only_where_rose
-returns-in-Err-TooLong-clause-read_fault_only_where_rose g c = grind (arith, common_steps)
 
 pub returns-then-eq-clause-write_fault_only_where_rose : goal.returns-then-eq-clause-write_fault_only_where_rose
 returns-then-eq-clause-write_fault_only_where_rose g c = grind (arith, common_steps)
@@ -111,8 +118,8 @@ returns-in_default-clause-write_fault_only_where_rose g c = grind (arith, common
 pub returns-in_default-clause-no_write_fault_passed_over : goal.returns-in_default-clause-no_write_fault_passed_over
 returns-in_default-clause-no_write_fault_passed_over g c = grind (arith, common_steps)
 
-pub returns-then-eq-2-clause-read_fault_only_where_rose : goal.returns-then-eq-2-clause-read_fault_only_where_rose
-returns-then-eq-2-clause-read_fault_only_where_rose g c = grind (arith, common_steps)
+pub returns-then-ends_session-clause-read_fault_only_where_rose : goal.returns-then-ends_session-clause-read_fault_only_where_rose
+returns-then-ends_session-clause-read_fault_only_where_rose g c = grind (arith, common_steps)
 
-pub returns-then-eq-2-clause-write_fault_only_where_rose : goal.returns-then-eq-2-clause-write_fault_only_where_rose
-returns-then-eq-2-clause-write_fault_only_where_rose g c = grind (arith, common_steps)
+pub returns-then-ends_session-clause-write_fault_only_where_rose : goal.returns-then-ends_session-clause-write_fault_only_where_rose
+returns-then-ends_session-clause-write_fault_only_where_rose g c = grind (arith, common_steps)
