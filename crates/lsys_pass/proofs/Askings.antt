@@ -1,6 +1,6 @@
 -- Who may have to be asked on a level that was made.
 use Rattle.std.proofs.Common.{◌≡◌, ◌<◌, ◌+◌, ◌^◌, ℕ, true, List, [], ◌∷◌, ◌++◌, length, Some, refl, sym, ap, ◌∙◌, subst, inl, inr, arith}
-use Rattle.std.specs.Prelude.{option_map, slice_get}
+use Rattle.std.specs.Prelude.{◌↔◌, option_map, slice_get}
 use Rattle.std.proofs.lemmas.Bool.{cases_lt}
 use Rattle.std.proofs.lemmas.Option.{same_Some}
 use Rattle.lsys_spec.specs.Rows.{In}
@@ -13,7 +13,7 @@ use Rattle.lsys_change.specs.Nodes.{Kin}
 use Rattle.lsys_change.specs.Groups.{has_same_rules}
 use Rattle.lsys_match.specs.Kept.{Kept}
 use Rattle.lsys_forest.specs.Nodes.{Node}
-use Rattle.lsys_forest.specs.Groves.{IsLive, IsRooted, changes_in}
+use Rattle.lsys_forest.specs.Groves.{Grove, IsLive, IsRooted, changes_in}
 use Rattle.lsys_forest.specs.Rows.{complete_levels, level_nodes, place_of_node}
 use Rattle.lsys_forest.proofs.RowLemmas.{In_append, In_left, In_right, level_depth}
 use Rattle.lsys_forest.proofs.SoundLemmas.{AreSound-now, AreSound-then}
@@ -28,7 +28,6 @@ use Rattle.lsys_candidates.specs.Repairs.{were}
 use Rattle.lsys_candidates.specs.Candidates.{AsksOn}
 use Rattle.lsys_candidates.specs.Finds.{IsBeside}
 use Rattle.lsys_candidates.specs.Found.{IsOther, IsAmong, SteppingNodes, AreAnswersRight}
-use Rattle.lsys_candidates.specs.Asks.{AddsOf}
 use Rattle.lsys_candidates.specs.Others.{RulesOf, are_alike, IsOtherwise}
 use Rattle.lsys_candidates.proofs.Alike.{alike_is}
 use Rattle.lsys_candidates.proofs.Gathering.{marked_or_not}
@@ -42,7 +41,7 @@ use Rattle.lsys_pass.specs.Stages.{Rests}
 use Rattle.lsys_pass.specs.Passes.{PassView, stage_of, repair_of, IsPass}
 use Rattle.lsys_pass.specs.Passes as P
 use Rattle.lsys_pass.specs.Fresh.{row_of, HasFound}
-use Rattle.lsys_pass.specs.Others.{rules_on_level, IsOthers}
+use Rattle.lsys_pass.specs.Others.{rules_on_level, AreUnlike, IsOthers, ListsOthers}
 use Rattle.lsys_pass.proofs.Backing.{rests_at}
 use Rattle.lsys_pass.proofs.Before.{answer_lives, placed, is_below}
 
@@ -52,18 +51,15 @@ use Rattle.lsys_pass.proofs.Before.{answer_lives, placed, is_below}
 pub row_lives : (v : PassView) (t : ℕ) → IsPass v → (k : ℕ) → In k (row_of v t) → IsLive v.forest k
 row_lives v t h k i = live_at v.forest t k (AreSound-now v.forest.root (changes_in v.forest) (P.now_in v) h.stored.sound) i
 
-pub others_some : (v : PassView) (t : ℕ) (rules : RulesOf) (nodes old new others : List ℕ) → t < v.system.depth → rules ≡ rules_on_level v t → nodes ≡ row_of v t → old ≡ [] → others ≡ new
-    → AddsOf (IsOtherwise rules (P.now_in v)) nodes old new → IsOthers v t others
-others_some v t rules nodes old new others l same row none is a = record {
+pub others_some : (v : PassView) (t : ℕ) (rules : RulesOf) (others : List ℕ) → t < v.system.depth → rules ≡ rules_on_level v t → AreUnlike rules v.forest t others → IsOthers v t others
+others_some v t rules others l same a = record {
   all = λ m. absurd (omega (arith, l, m));
-  unlike = λ m k. (
-    λ i. (let u = (a.are k).0 (subst (In k) whole i) in (subst (In k) row u.0, subst (λ (r : RulesOf). IsOtherwise r (P.now_in v) k) same u.1)),
-    λ u. subst (In k) (sym whole) ((a.are k).1 (subst (In k) (sym row) u.0, subst (λ (r : RulesOf). IsOtherwise r (P.now_in v) k) (sym same) u.1)),
-  );
+  unlike = λ m k. subst (λ (r : RulesOf). In k others ↔ (In k (row_of v t) × IsOtherwise r (P.now_in v) k)) same (a k);
 }
-  where
-    whole : others ≡ a.added
-    whole = is ∙ a.is ∙ ap (λ (xs : List ℕ). xs ++ a.added) none
+
+-- a list that was begun empty tells them
+pub unlike_listed : {A : Type 0} (r : RulesOf) (f : Grove A) (t : ℕ) (others : List ℕ) → ListsOthers r f t others → AreUnlike r f t others
+unlike_listed r f t others a k = (λ i. (a.are k).0 (subst (In k) a.is i), λ u. subst (In k) (sym a.is) ((a.are k).1 u))
 
 -- where the bodies of rules are the same, there are rules where there were
 rules_stay : (xs ys : List Body) → same_all same_body xs ys ≡ true → (xs ≡ [] → ⊥) → ys ≡ [] → ⊥

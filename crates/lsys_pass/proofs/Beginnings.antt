@@ -136,9 +136,6 @@ pub record KeepsAllSeats (old new : List Seat) : Type 0 where
   pub marks : SameMarks old new
   pub keeps : KeepsSeats old new
 
-pub seats_stay : (seats : List Seat) → KeepsAllSeats seats seats
-seats_stay seats = record { same = λ k. refl; marks = λ k. refl; keeps = λ k h. h }
-
 module _ (v : PassView) (f : Grove Kept) (seats : List Seat) (sizes made : List Size) (d : Differences) (b : KeepsForest v.forest f) (s : KeepsAllSeats v.seats seats) where
   abbrev v' : PassView
   v' = record v { forest = f; seats = seats; sizes = sizes; made = made; front = d }

@@ -8,6 +8,7 @@ use Rattle.lsys_spec.specs.Rows.{In}
 use Rattle.lsys_reads.proofs.RowLemmas.{either}
 use Rattle.lsys_reads.specs.Rows.{has}
 use Rattle.lsys_reads.specs.Relations.{Relations, is_settled, is_pending, pairs_have}
+use Rattle.lsys_pass.specs.Read.{SettlesReads}
 
 -- 1. a list in another order
 
@@ -19,14 +20,15 @@ has_sum (x ∷ xs) k =
 pub has_in_order : (xs ys : List ℕ) (k : ℕ) → IsPermutation xs ys → has ys k ≡ has xs k
 has_in_order xs ys k p = has_sum ys k ∙ ap (nat_lt 0) (sum_by-IsPermutation (λ x. cond (x == k) 1 0) xs ys p) ∙ sym (has_sum xs k)
 
-pub settled_both : (old mid new : Relations) (rn ds rn' ds' : List ℕ) → ((reader seen : ℕ) → is_settled mid reader seen ≡ (not (has ds' reader) && is_settled old reader seen)) → mid.pending ≡ old.pending
-    → ((reader seen : ℕ) → is_settled new reader seen ≡ ((not (has rn' reader) && is_settled mid reader seen) || is_pending mid reader seen))
-    → ((k : ℕ) → has rn' k ≡ has rn k) → ((k : ℕ) → has ds' k ≡ has ds k)
-    → (reader seen : ℕ) → is_settled new reader seen ≡ ((not (has rn reader) && (not (has ds reader) && is_settled old reader seen)) || is_pending old reader seen)
-settled_both old mid new rn ds rn' ds' forgets quiet settles e f reader seen =
-    settles reader seen ∙ ap (λ b. (not b && is_settled mid reader seen) || is_pending mid reader seen) (e reader)
-    ∙ ap (λ b. (not (has rn reader) && b) || is_pending mid reader seen) (forgets reader seen ∙ ap (λ b. not b && is_settled old reader seen) (f reader))
+pub settled_both : (old mid new : Relations) (rn ds : List ℕ) → ((reader seen : ℕ) → is_settled mid reader seen ≡ (not (has ds reader) && is_settled old reader seen)) → mid.pending ≡ old.pending
+    → ((reader seen : ℕ) → is_settled new reader seen ≡ ((not (has rn reader) && is_settled mid reader seen) || is_pending mid reader seen)) → SettlesReads old new rn ds
+settled_both old mid new rn ds forgets quiet settles reader seen =
+    settles reader seen ∙ ap (λ b. (not (has rn reader) && b) || is_pending mid reader seen) (forgets reader seen)
     ∙ ap (λ ps. (not (has rn reader) && (not (has ds reader) && is_settled old reader seen)) || pairs_have ps reader seen) quiet
+
+pub settled_in_order : (old new : Relations) (rn ds rn' ds' : List ℕ) → SettlesReads old new rn' ds' → ((k : ℕ) → has rn' k ≡ has rn k) → ((k : ℕ) → has ds' k ≡ has ds k) → SettlesReads old new rn ds
+settled_in_order old new rn ds rn' ds' settled e f reader seen =
+    settled reader seen ∙ (λ i. (not (e reader i) && (not (f reader i) && is_settled old reader seen)) || is_pending old reader seen)
 
 -- 2. who is among them
 

@@ -9,11 +9,12 @@ use Rattle.lsys_forest.specs.Groves.{Grove, now_of, changes_in, live_nodes, IsAt
 use Rattle.lsys_kept.specs.declared.seat.Seat.{Seat}
 use Rattle.lsys_kept.specs.Seats.{is_marked, HasSeat}
 use Rattle.lsys_forest.specs.Rows.{kids_in}
+use Rattle.lsys_brood.specs.declared.need.Need.{Need}
 use Rattle.lsys_brood.specs.Matches.{nodes_without}
 use Rattle.lsys_brood.specs.Children.{ToldNodes}
 use Rattle.lsys_repair.specs.Nexts.{wanted_count}
 use Rattle.lsys_repair.specs.Renewals.{AreRenewals}
-use Rattle.lsys_repair.specs.Needs.{number_told, wanted_symbols}
+use Rattle.lsys_repair.specs.Needs.{need_for, number_told, wanted_symbols}
 use Rattle.lsys_repair.specs.Made.{TellsAllOf}
 use Rattle.lsys_front.specs.Fronts.{nothing}
 use Rattle.lsys_pass.specs.declared.state.PassState.TheVariants.{Rest}
@@ -50,6 +51,15 @@ pub record MakesFirst (s : System) (limit : ℕ) (old new : Nodes Kept) (root : 
 
 abbrev pub MakesFirstIn : System → ℕ → Grove Kept → Grove Kept → ToldNodes → Type 0
 MakesFirstIn s limit old new told = MakesFirst s limit (now_of old) (now_of new) old.root told
+
+-- the same, under any limit that has room for them
+abbrev pub MakesFirstUnder : System → Grove Kept → Grove Kept → ToldNodes → Type 0
+MakesFirstUnder s old new told =
+    (limit : ℕ) → wanted_count s.numbering s.axiom_string ≤ limit → MakesFirstIn s limit old new told
+
+-- what it takes to make them
+abbrev pub need_for_axiom : System → Grove Kept → Need
+need_for_axiom s f = need_for s.numbering (now_of f) (kids_in (now_of f f.root)) s.axiom_string
 
 -- so many symbols are within the limit; or a system is refused that has so many on its first level
 abbrev pub RefusesLongAxiom : ℕ → ℕ → Option DeriveRefusal → Type 0

@@ -15,7 +15,7 @@ use Rattle.lsys_candidates.specs.Repairs.{SteppingSpots}
 use Rattle.lsys_candidates.specs.Found.{Differs, IsFound}
 use Rattle.lsys_front.specs.Fronts.{IsLevelFront, MayHaveOthers}
 use Rattle.lsys_pass.specs.declared.state.PassState.TheVariants.{Level}
-use Rattle.lsys_pass.specs.Sizes.{opens_at, with_level}
+use Rattle.lsys_pass.specs.Sizes.{HaveSizesTo, opens_at, with_level}
 use Rattle.lsys_pass.specs.Rests.{AreCountedLow}
 use Rattle.lsys_pass.specs.Stages.{Stage, was}
 use Rattle.lsys_pass.specs.Advances.{IsAskedTo, KeepsRest, StaysAbove, Advances, HasLastLevel}
@@ -144,6 +144,10 @@ pub record HasFound (v : PassView) (t : ℕ) (beside readers : List ℕ) : Type 
 -- so many symbols the level has that was made
 abbrev pub SizesLevel : PassView → PassView → ℕ → Type 0
 SizesLevel old new t = new.made ≡ with_level old.made (length (row_of new t))
+
+-- the sizes of the levels up to level t are told, of which it isn't known yet whether it is open
+abbrev pub SizesTo : PassView → ℕ → Type 0
+SizesTo v t = HaveSizesTo (P.now_in v) v.forest.root v.made t
 
 -- where a level was just made, it is found who turned, and who else may have another question
 abbrev pub KnowsTurned : PassView → PassView → List ℕ → List ℕ → Type 0

@@ -28,3 +28,8 @@ module _ {A : Type 0} where
   -- these are the nodes of level t that are modules with other rules
   abbrev pub ListsOthers : RulesOf → Grove A → ℕ → List ℕ → Type 0
   ListsOthers r f t others = AddsOf (IsOtherwise r (now_of f)) (level_nodes (now_of f) f.root t) [] others
+
+  -- all of these are nodes of level t that are modules with other rules, and there are no more
+  abbrev pub AreUnlike : RulesOf → Grove A → ℕ → List ℕ → Type 0
+  AreUnlike r f t others = (k : ℕ)
+      → In k others ↔ (In k (level_nodes (now_of f) f.root t) × IsOtherwise r (now_of f) k)

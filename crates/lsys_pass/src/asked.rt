@@ -7,9 +7,10 @@ ghost use Rattle.lsys_pass.specs.declared.state.PassState.TheVariants.{Failed};
 ghost use Rattle.lsys_pass.specs.Passes.{stage_of};
 ghost use Rattle.lsys_pass.specs.Moves.{SameRun};
 ghost use Rattle.lsys_pass.specs.Fresh.{row_of, HasFound, Goes, IsReadyToAsk};
-ghost use Rattle.lsys_pass.specs.Others.{AllLive, IsOthers, ListsOthers};
+ghost use Rattle.lsys_pass.specs.Others.{AllLive, AreUnlike, IsOthers, ListsOthers};
 
 use crate::keep::target;
+use crate::next_level::is_asked;
 use crate::pass::Pass;
 use lsys_candidates::{LevelRules, add_others};
 use lsys_forest::{Forest, Kept, NodeId};
@@ -81,15 +82,25 @@ impl<L: Ledger> Pass<L> {
         requires complete { level < length (complete_levels self.now.forest) }
         ensures others { IfOk result (λ others. IsOthers self.now level others.items) }
     {
-        if level >= self.system.depth() {
+        if !is_asked(level, self.system.depth()) {
             return nodes_on(alloc, &self.forest, level);
         }
+        self.find_unlike(alloc, level)
+    }
+
+    /// The nodes of a level that are modules with other rules than at the last rest, where there were questions on it then.
+    ///
+    /// # Errors
+    ///
+    /// Want of memory.
+    fn find_unlike(&self, alloc: Global, level: u32) -> Result<Vec<NodeId>, AllocError>
+        requires complete { level < length (complete_levels self.now.forest) }
+        requires below { level < self.now.system.depth }
+        ensures others { IfOk result (λ others. IsOthers self.now level others.items) }
+    {
         let system = target(&self.next, &self.system);
         let mut rules = LevelRules::new(alloc, &self.system, system, level)?;
-        if rules.are_all_alike()? {
-            return Ok(Vec::new(alloc));
-        }
-        others_on(alloc, &mut rules, &self.forest, level)
+        unlike_on(alloc, &mut rules, &self.forest, level)
     }
 }
 
@@ -111,7 +122,29 @@ fn nodes_on<A: Kept>(
     Ok(nodes)
 }
 
-/// The nodes of a level that are modules with other rules.
+/// The nodes of a level that are modules with other rules. Where all rules of the level are the same it costs steps by the number of
+/// rules alone.
+///
+/// # Errors
+///
+/// Want of memory.
+fn unlike_on<A: Kept>(
+    alloc: Global,
+    rules: &mut LevelRules<'_>,
+    forest: &Forest<A>,
+    level: u32,
+) -> Result<Vec<NodeId>, AllocError>
+    requires level { level < length (complete_levels forest.now) }
+    requires live { AllLive forest.now (level_nodes (now_of forest.now) forest.now.root level) }
+    ensures { IfOk result (λ others. AreUnlike rules.old forest.now level others.items) }
+{
+    if rules.are_all_alike()? {
+        return Ok(Vec::new(alloc));
+    }
+    others_on(alloc, rules, forest, level)
+}
+
+/// The nodes of a level that are modules with other rules, by a look at all of its nodes.
 ///
 /// # Errors
 ///

@@ -1,16 +1,19 @@
 //! The first level of another system.
-ghost use Rattle.std.specs.Prelude.{◌≡◌, ◌<◌, ◌^◌, [], length, IfOk, IfErr, OnOk, OnErr};
+ghost use Rattle.std.specs.Prelude.{◌≡◌, ◌<◌, ◌^◌, ℕ, [], length, IfOk, IfErr, OnOk, OnErr};
 ghost use Rattle.lsys_match.specs.Derivations.{IsLevelRefusal};
 ghost use Rattle.lsys_change.specs.Nodes.{AreOnce};
-ghost use Rattle.lsys_forest.specs.Groves.{now_of, rest_of, kept_in, live_nodes};
+ghost use Rattle.lsys_forest.specs.Groves.{AreSound, IsLive, now_of, rest_of, changes_in, kept_in, live_nodes};
 ghost use Rattle.lsys_kept.specs.Lineages.{kins};
+ghost use Rattle.lsys_kept.specs.Seats.{HasSeat, SameSeats, SameMarks, KeepsSeats};
 ghost use Rattle.lsys_repair.specs.Renewals.{AreSmall, AreAllUnder};
+ghost use Rattle.lsys_front.specs.LooksFrom.{first_nodes};
 ghost use Rattle.lsys_pass.specs.declared.state.PassState.TheVariants.{Rest, Failed};
 ghost use Rattle.lsys_pass.specs.Sizes.{with_level};
 ghost use Rattle.lsys_pass.specs.Passes.{stage_of};
 ghost use Rattle.lsys_pass.specs.Moves.{SameRun, ArrivesAt, IsBack};
 ghost use Rattle.lsys_pass.specs.Fresh.{row_of, Goes, WasJustMade};
-ghost use Rattle.lsys_pass.specs.Beginnings.{Begun, KeepsNodes, WasStill, MakesFirstIn};
+ghost use Rattle.lsys_pass.specs.Beginnings.{Begun, KeepsNodes, WasStill, MakesFirstIn, MakesFirstUnder, need_for_axiom};
+ghost use Rattle.lsys_pass.specs.Made.{IsFirstFront, AddsLevel};
 ghost use Rattle.lsys_pass.specs.Spent.{AllPending};
 
 use crate::keep::target;
@@ -18,16 +21,17 @@ use crate::pass::Pass;
 use crate::refusal::first_refusal;
 use crate::room::reserve_for;
 use crate::seating::make_seats;
+use crate::sizes::Sizes;
 use crate::state::PassState;
-use lsys_brood::{Brood, Changes};
-use lsys_forest::Forest;
+use lsys_brood::{Brood, Changes, Need};
+use lsys_forest::{Forest, Kept};
 use lsys_front::Front;
-use lsys_kept::KeptAnswer;
+use lsys_kept::{KeptAnswer, Seats};
 use lsys_repair::{count_first, make_first};
 use lsys_rewrite::DeriveRefusal;
 use lsys_rules::System;
 use lsys_wanted::Wanted;
-use std::alloc::Global;
+use std::alloc::{AllocError, Global};
 use std::sync::ledger::Ledger;
 
 impl<L: Ledger> Pass<L> {
@@ -98,12 +102,64 @@ impl<L: Ledger> Pass<L> {
             &mut self.wanted,
             &mut self.brood,
         )?;
-        let front = Front::first(alloc, &self.forest, &told)?;
-        make_seats(&mut self.seats, &self.forest)?;
-        self.sizes.add(front.changes.looked.len())?;
-        self.work.front = front;
+        come_first(
+            alloc,
+            &self.forest,
+            &told,
+            &mut self.work.front,
+            &mut self.seats,
+            &mut self.sizes,
+        )?;
         Ok(())
     }
+}
+
+/// Comes to the first level, of whose nodes it was told what became of them: it is told what differs there, each node has a seat,
+/// and the level is counted. The forest is sound.
+///
+/// # Errors
+///
+/// Want of memory. What the seats tell, the marks, and the sizes of the last rest stay then too.
+fn come_first<A: Kept>(
+    alloc: Global,
+    forest: &Forest<A>,
+    told: &Changes,
+    front: &mut Front,
+    seats: &mut Seats,
+    sizes: &mut Sizes,
+) -> Result<(), AllocError>
+    ensures first { OnOk result (IsFirstFront forest.now told.now front.new) }
+    ensures sound { AreSound forest.now.root (changes_in forest.now) (now_of forest.now) }
+    ensures seats { SameSeats seats.old seats.new }
+    ensures marks { SameMarks seats.old seats.new }
+    ensures keeps { KeepsSeats seats.old seats.new }
+    ensures room { OnOk result ((k : ℕ) → IsLive forest.now k → HasSeat seats.new k) }
+    ensures rest { sizes.new.rest.items ≡ sizes.old.rest.items }
+    ensures made { OnOk result (AddsLevel sizes.old sizes.new (length (first_nodes forest.now))) }
+{
+    take_first(front, alloc, forest, told)?;
+    make_seats(seats, forest)?;
+    sizes.add(front.changes.looked.len())?;
+    Ok(())
+}
+
+/// What differs on the first level, of whose nodes it was told what became of them, takes the place of what differed. The forest is
+/// sound.
+///
+/// # Errors
+///
+/// Want of memory.
+fn take_first<A: Kept>(
+    front: &mut Front,
+    alloc: Global,
+    forest: &Forest<A>,
+    told: &Changes,
+) -> Result<(), AllocError>
+    ensures first { OnOk result (IsFirstFront forest.now told.now front.new) }
+    ensures sound { AreSound forest.now.root (changes_in forest.now) (now_of forest.now) }
+{
+    *front = Front::first(alloc, forest, told)?;
+    Ok(())
 }
 
 /// Makes the children of the root of a forest those of the axiom of a system, where these are no more than the limit, and
@@ -139,8 +195,40 @@ fn make_first_nodes<L: Ledger>(
     if let Some(refusal) = first_refusal(limit, count.wanted) {
         return Err(refusal);
     }
+    let told = make_counted(alloc, forest, system, &count.need, wanted, brood)?;
+    Ok(told)
+}
+
+/// Makes the children of the root of a forest those of the axiom of a system, as many as were counted, and tells what differs.
+///
+/// # Errors
+///
+/// Want of memory. The nodes stay then.
+fn make_counted<L: Ledger>(
+    alloc: Global,
+    forest: &mut Forest<KeptAnswer<L>>,
+    system: &System,
+    need: &Need,
+    wanted: &mut Wanted,
+    brood: &mut Brood,
+) -> Result<Changes, AllocError>
+    requires once { AreOnce (kins (now_of forest.old)) forest.old.root }
+    requires small { AreSmall (now_of forest.old) }
+    requires under { AreAllUnder (now_of forest.old) forest.old.root forest.old.root }
+    requires few { live_nodes forest.old < 2 ^ 32 }
+    requires need { need.now ≡ need_for_axiom system.now forest.old }
+    ensures made { IfOk result (MakesFirstUnder system.now forest.old forest.new) }
+    ensures stays { OnErr result (KeepsNodes forest.old forest.new) }
+    ensures few { live_nodes forest.new < 2 ^ 32 }
+    ensures rest { rest_of forest.new ≡ rest_of forest.old }
+    ensures root { forest.new.root ≡ forest.old.root }
+    ensures kept { kept_in forest.new ≡ kept_in forest.old }
+{
+    let numbering = system.lineage();
+    let seed = system.seed();
+    let axiom = system.axiom().symbols();
     let mut told = Changes::new(alloc);
-    reserve_for(forest, &mut told, &count.need)?;
+    reserve_for(forest, &mut told, need)?;
     make_first(forest, numbering, seed, axiom, wanted, brood, &mut told)?;
     Ok(told)
 }

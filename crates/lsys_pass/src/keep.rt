@@ -39,6 +39,13 @@ pub(crate) fn take_over(next: &mut Option<System>, system: &mut System)
     }
 }
 
+/// The system that was being made, if there is one, is dropped.
+pub(crate) fn drop_next(next: &mut Option<System>)
+    ensures { next.new ≡ None }
+{
+    *next = None;
+}
+
 /// The answer that a node keeps, if it keeps one.
 pub(crate) fn answer_of<L: Ledger>(
     forest: &Forest<KeptAnswer<L>>,

@@ -1,18 +1,23 @@
 //! The next level is made.
-ghost use Rattle.std.specs.Prelude.{◌≡◌, ◌≤◌, ◌<◌, ◌+◌, ◌^◌, ℕ, IfOk, OnOk};
-ghost use Rattle.lsys_forest.specs.Groves.{AreSound, now_of, changes_in, live_nodes};
+ghost use Rattle.std.specs.Prelude.{◌≡◌, ◌≤◌, ◌<◌, ◌+◌, ◌^◌, ◌++◌, ℕ, IfOk, OnOk};
+ghost use Rattle.lsys_spec.specs.Rows.{In};
+ghost use Rattle.lsys_forest.specs.Groves.{AreSound, IsLive, now_of, changes_in, live_nodes};
+ghost use Rattle.lsys_kept.specs.Seats.{HasSeat, SameSeats, SameMarks, KeepsSeats};
 ghost use Rattle.lsys_repair.specs.Parents.{nodes_in, HasParents};
 ghost use Rattle.lsys_repair.specs.Needs.{needs};
+ghost use Rattle.lsys_front.specs.Fronts.{StandOn};
+ghost use Rattle.lsys_front.specs.LooksFrom.{moved_in};
 ghost use Rattle.lsys_pass.specs.declared.state.PassState.TheVariants.{Failed};
 ghost use Rattle.lsys_pass.specs.Sizes.{total_of};
 ghost use Rattle.lsys_pass.specs.Advances.{symbols_wanted};
 ghost use Rattle.lsys_pass.specs.Passes.{stage_of, now_in, AnswersStay};
 ghost use Rattle.lsys_pass.specs.Moves.{SameRun};
 ghost use Rattle.lsys_pass.specs.Beginnings.{KeepsNodes};
-ghost use Rattle.lsys_pass.specs.Made.{KeepsAnswers, MakesBelow};
+ghost use Rattle.lsys_pass.specs.Made.{KeepsAnswers, MakesBelow, IsNextFront, AddsLevel};
 ghost use Rattle.lsys_pass.specs.Fresh.{WasAsked, AreNextParents, WasJustMade, Goes, SizesLevel};
 
 use crate::keep::target;
+use crate::next_level::is_asked;
 use crate::pass::Pass;
 use crate::room::reserve_for;
 use crate::seating::make_seats;
@@ -21,7 +26,7 @@ use lsys_brood::{Brood, Changes, Need};
 use lsys_candidates::LevelRules;
 use lsys_forest::{Forest, Kept};
 use lsys_front::{Front, law_of_forests};
-use lsys_kept::KeptAnswer;
+use lsys_kept::{KeptAnswer, Seats};
 use lsys_repair::{Parent, make_children};
 use lsys_rules::System;
 use lsys_wanted::Wanted;
@@ -84,10 +89,15 @@ impl<L: Ledger> Pass<L> {
             &mut self.brood,
         )?;
         link_busy(&mut self.forest, next, busy);
-        let front = self.work.front.next(alloc, &self.forest, &told)?;
-        make_seats(&mut self.seats, &self.forest)?;
-        self.sizes.add(symbols)?;
-        self.work.front = front;
+        come_below(
+            alloc,
+            &self.forest,
+            &told,
+            symbols,
+            &mut self.work.front,
+            &mut self.seats,
+            &mut self.sizes,
+        )?;
         Ok(())
     }
 }
@@ -121,6 +131,56 @@ fn make_below<L: Ledger>(
     Ok(told)
 }
 
+/// Comes from a level to the next one, of whose nodes it was told what became of them: it is told what differs there in place of what
+/// differs on the level, each node has a seat, and the next level is counted.
+///
+/// # Errors
+///
+/// Want of memory. What the seats tell, the marks, and the sizes of the last rest stay then too.
+fn come_below<L: Ledger>(
+    alloc: Global,
+    forest: &Forest<KeptAnswer<L>>,
+    told: &Changes,
+    symbols: usize,
+    front: &mut Front,
+    seats: &mut Seats,
+    sizes: &mut Sizes,
+) -> Result<(), AllocError>
+    requires lives { (k : ℕ) → In k front.old.changes.gone → IsLive forest.now k }
+    requires level { (t : ℕ) × StandOn forest.now t (told.now.touched ++ moved_in front.old) }
+    ensures next { OnOk result (IsNextFront forest.now front.old told.now front.new) }
+    ensures seats { SameSeats seats.old seats.new }
+    ensures marks { SameMarks seats.old seats.new }
+    ensures keeps { KeepsSeats seats.old seats.new }
+    ensures room { OnOk result ((k : ℕ) → IsLive forest.now k → HasSeat seats.new k) }
+    ensures rest { sizes.new.rest.items ≡ sizes.old.rest.items }
+    ensures made { OnOk result (AddsLevel sizes.old sizes.new symbols) }
+{
+    make_seats(seats, forest)?;
+    sizes.add(symbols)?;
+    take_next(front, alloc, forest, told)?;
+    Ok(())
+}
+
+/// What differs on the next level, of whose nodes it was told what became of them, takes the place of what differs on this one.
+///
+/// # Errors
+///
+/// Want of memory.
+fn take_next<L: Ledger>(
+    front: &mut Front,
+    alloc: Global,
+    forest: &Forest<KeptAnswer<L>>,
+    told: &Changes,
+) -> Result<(), AllocError>
+    requires lives { (k : ℕ) → In k front.old.changes.gone → IsLive forest.now k }
+    requires level { (t : ℕ) × StandOn forest.now t (told.now.touched ++ moved_in front.old) }
+    ensures { OnOk result (IsNextFront forest.now front.old told.now front.new) }
+{
+    *front = front.next(alloc, forest, told)?;
+    Ok(())
+}
+
 /// Whether so many nodes of a level are looked at that it pays to link it. A level is walked along where it is asked and was not,
 /// or was asked and is not, or has other rules than at the last rest. And each of so many nodes of the level above, which have
 /// other children or other neighbours, may lead to climbs that take as many steps as there are levels, there and back. It costs
@@ -138,12 +198,12 @@ fn is_busy(
     many: usize,
     symbols: usize,
 ) -> Result<bool, AllocError> {
-    let is_asked = level < new.depth();
+    let is_asked_now = is_asked(level, new.depth());
     let climbs = many.saturating_mul(2).saturating_mul(level as usize);
-    if is_asked != (level < old.depth()) || climbs >= total_with(sizes, symbols) {
+    if is_asked_now != is_asked(level, old.depth()) || climbs >= total_with(sizes, symbols) {
         return Ok(true);
     }
-    if !is_asked {
+    if !is_asked_now {
         return Ok(false);
     }
     Ok(!have_same_rules(alloc, old, new, level)?)

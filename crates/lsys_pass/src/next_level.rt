@@ -1,11 +1,9 @@
 //! A level is finished, and the next one is made.
-ghost use Rattle.std.specs.Prelude.{◌≡◌, ◌+◌, [], OnOk, OnErr, IfErr};
+ghost use Rattle.std.specs.Prelude.{◌≡◌, ◌↔◌, ◌<◌, ◌+◌, ◌^◌, [], IsTrue, OnOk, OnErr, IfErr};
 ghost use Rattle.lsys_match.specs.Derivations.{IsLevelRefusal};
 ghost use Rattle.lsys_pass.specs.declared.state.PassState.TheVariants.{Failed};
 ghost use Rattle.lsys_pass.specs.Moves.{AtLevel, SameRun, ArrivesAt, Finishes, Fails};
-ghost use Rattle.lsys_pass.specs.Passes.{now_in};
-ghost use Rattle.lsys_pass.specs.Sizes.{HaveSizesTo};
-ghost use Rattle.lsys_pass.specs.Fresh.{WasJustMade, Origin};
+ghost use Rattle.lsys_pass.specs.Fresh.{WasAsked, WasJustMade, SizesTo, Origin};
 ghost use Rattle.lsys_pass.specs.Spent.{AllPending};
 
 use crate::keep::target;
@@ -43,12 +41,33 @@ impl<L: Ledger> Pass<L> {
         }
         self.fail();
         let depth = self.depth();
+        let next = level + 1;
+        self.make_next(alloc, level)?;
+        Ok(self.come_to(alloc, next, depth)?)
+    }
+
+    /// Makes the next level, where all of this one was asked: the children of those parents whose children may be others.
+    ///
+    /// # Errors
+    ///
+    /// The limit, where the next level passes it; else want of memory. The last rest stays then too.
+    fn make_next(&mut self, alloc: Global, level: u32) -> Result<(), DeriveRefusal>
+        requires failed { self.old.state ≡ Failed }
+        requires asked { WasAsked self.old level }
+        requires few { level + 1 < 2 ^ 32 }
+        ensures fresh { OnOk result (WasJustMade self.new (level + 1)) }
+        ensures origin { OnOk result (Origin self.new (level + 1)) }
+        ensures sizes { OnOk result (SizesTo self.new (level + 1)) }
+        ensures renewed { OnOk result (self.new.renewed ≡ self.old.renewed) }
+        ensures refusal { IfErr result (IsLevelRefusal self.old.next self.old.limit) }
+        ensures run { SameRun self.old self.new }
+        ensures state { self.new.state ≡ Failed }
+    {
         let parents = self.find_parents(alloc, level)?;
         let count = self.count_next(level, &parents)?;
-        let next = level + 1;
-        self.within_limit(next, count.symbols)?;
+        self.within_limit(level + 1, count.symbols)?;
         self.make_level(alloc, level, &parents.list, &count.need, count.symbols)?;
-        Ok(self.come_to(alloc, next, depth)?)
+        Ok(())
     }
 
     /// The depth of the system that is being made.
@@ -73,7 +92,7 @@ impl<L: Ledger> Pass<L> {
         requires fresh { WasJustMade self.old level }
         requires origin { Origin self.old level }
         requires depth { depth ≡ self.old.next.depth }
-        requires sizes { HaveSizesTo (now_in self.old) self.old.forest.root self.old.made level }
+        requires sizes { SizesTo self.old level }
         ensures run { SameRun self.old self.new }
         ensures renewed { OnOk result (self.new.renewed ≡ self.old.renewed) }
         ensures comes { OnOk result (ArrivesAt self.old.next level self.new.state) }
@@ -81,7 +100,7 @@ impl<L: Ledger> Pass<L> {
         ensures fails { OnErr result (self.new.state ≡ Failed) }
     {
         let found = self.find_turned(alloc)?;
-        if level < depth {
+        if is_asked(level, depth) {
             self.ask_level(alloc, level, &found)?;
             self.state = PassState::Level(level);
         } else {
@@ -90,4 +109,11 @@ impl<L: Ledger> Pass<L> {
         }
         Ok(())
     }
+}
+
+/// Whether the nodes of a level are asked in a system of this depth: all levels are but the last one.
+pub(crate) fn is_asked(level: u32, depth: u32) -> bool
+    ensures { IsTrue result ↔ (level < depth) }
+{
+    level < depth
 }

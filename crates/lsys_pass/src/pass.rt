@@ -12,7 +12,7 @@ ghost use Rattle.lsys_pass.specs.Works.{IsCleared};
 ghost use Rattle.lsys_pass.specs.Moves.{AtLevel, Fails, IsBack, StepsOver, Waits, ComesToRest, CountsBoth, MovesBoth};
 ghost use Rattle.lsys_pass.specs.Spent.{AsksRenewed};
 
-use crate::keep::{answer_of, take_over, target};
+use crate::keep::{answer_of, drop_next, take_over, target};
 use crate::outcome::keep_outcome;
 use crate::read::settle_reads;
 use crate::refusal::first_fault;
@@ -263,7 +263,7 @@ impl<L: Ledger> Pass<L> {
         self.forest.rollback(&mut self.store);
         self.reads.retract();
         self.sizes.forget();
-        self.next = None;
+        drop_next(&mut self.next);
         Self::come_to_rest(&mut self.work, &mut self.state);
     }
 

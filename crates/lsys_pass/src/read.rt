@@ -36,8 +36,16 @@ pub(crate) fn settle_reads(reads: &mut Reads, work: &mut Work)
 {
     work.dropped.sort_unstable_by_key(|tag| tag.0);
     work.renewed.sort_unstable_by_key(|tag| tag.0);
-    reads.forget(&work.dropped);
-    reads.settle(&work.renewed);
+    settle_listed(reads, &work.renewed, &work.dropped);
+}
+
+/// What these read that were dropped is forgotten, and what these read that were renewed is what is pending.
+fn settle_listed(reads: &mut Reads, renewed: &[Tag], dropped: &[Tag])
+    ensures settled { SettlesReads reads.old reads.new renewed.now dropped.now }
+    ensures pending { reads.new.pending ≡ [] }
+{
+    reads.forget(dropped);
+    reads.settle(renewed);
 }
 
 /// Adds them one by one; for want of memory only some.

@@ -1,9 +1,10 @@
 //! Which nodes of a level turned, and who else on it may have another question.
-ghost use Rattle.std.specs.Prelude.{◌≡◌, ◌<◌, ◌^◌, ℕ, false, length, IfOk, OnOk};
+ghost use Rattle.std.specs.Prelude.{◌≡◌, ◌<◌, ◌^◌, ◌++◌, ℕ, false, length, IfOk, OnOk};
 ghost use Rattle.lsys_spec.specs.Rows.{In};
 ghost use Rattle.lsys_forest.specs.Groves.{IsLive};
 ghost use Rattle.lsys_kept.specs.Seats.{is_marked, SameSeats, KeepsSeats};
 ghost use Rattle.lsys_candidates.specs.Found.{AreOnLevels, HasSeatsForFound};
+ghost use Rattle.lsys_front.specs.LooksFrom.{moved_in};
 ghost use Rattle.lsys_pass.specs.declared.state.PassState.TheVariants.{Failed};
 ghost use Rattle.lsys_pass.specs.Passes.{stage_of};
 ghost use Rattle.lsys_pass.specs.Fresh.{Goes, WasJustMade, KnowsTurned, TurnsOnly};
@@ -11,8 +12,8 @@ ghost use Rattle.lsys_pass.specs.Works.{DropsGone, IsFoundBy, MovesTurned};
 
 use crate::pass::Pass;
 use crate::work::Work;
-use lsys_forest::{Forest, Kept};
-use lsys_front::{Found, add_answered};
+use lsys_forest::{Forest, Kept, NodeId};
+use lsys_front::{Found, Front, add_answered};
 use lsys_kept::Seats;
 use lsys_reads::Reads;
 use std::alloc::{AllocError, Global};
@@ -76,9 +77,20 @@ impl Work {
     {
         add_answered(forest, &self.front.changes.gone, &mut self.dropped)?;
         let found = self.front.turn(alloc, forest, seats, reads)?;
-        self.moved.extend_from_slice(&self.front.changes.came)?;
-        self.moved.extend_from_slice(&self.front.turned)?;
+        add_moved(&mut self.moved, &self.front)?;
         self.first_renewed = self.renewed.len();
         Ok(found)
     }
+}
+
+/// Adds the nodes that came to a level, and those that turned there.
+///
+/// # Errors
+///
+/// Want of memory.
+fn add_moved(moved: &mut Vec<NodeId>, front: &Front) -> Result<(), AllocError>
+    ensures { OnOk result (moved.new.items ≡ moved.old.items ++ moved_in front.now) }
+{
+    moved.extend_from_slice(&front.changes.came)?;
+    moved.extend_from_slice(&front.turned)
 }

@@ -10,50 +10,40 @@ make_below-requires-clause-need g c = need_at _ _ c.args.level c.self.view_is c.
 pub invariant_of-self : goal.invariant_of-self
 invariant_of-self g c = made_failed _ _ _ _ _ _ c.self.invariant (ap (λ (z : PassView). z.state) c.self.view_is ∙ c.requires.failed) c.make_below.ensures.keeps (λ k. refl) (λ k. refl) (λ k i. i) refl
 
-pub next-requires-clause-lives : goal.next-requires-clause-lives
-next-requires-clause-lives g c =
+pub come_below-requires-clause-lives : goal.come_below-requires-clause-lives
+come_below-requires-clause-lives g c =
     lives_at _ _ c.args.level c.self.view_is c.requires.asked c.args.parents.now c.requires.found _ c.target-system.ensures _ _ (linked_keeps _ _ _ c.link_busy.ensures c.make_below.ensures.keeps) (linked_made _ _ _ c.link_busy.ensures _ _ _ c.in_ok-told.ensures.made)
 
-pub next-requires-clause-level : goal.next-requires-clause-level
-next-requires-clause-level g c =
+pub come_below-requires-clause-level : goal.come_below-requires-clause-level
+come_below-requires-clause-level g c =
     (c.args.level, stands_at _ _ c.args.level c.self.view_is c.requires.asked c.args.parents.now c.requires.found _ c.target-system.ensures _ _ (linked_keeps _ _ _ c.link_busy.ensures c.make_below.ensures.keeps) (linked_made _ _ _ c.link_busy.ensures _ _ _ c.in_ok-told.ensures.made))
 
-pub invariant_of-self-in_err-front : goal.invariant_of-self-in_err-front
-invariant_of-self-in_err-front g c = made_failed _ _ _ _ _ _ c.self.invariant (ap (λ (z : PassView). z.state) c.self.view_is ∙ c.requires.failed) (linked_keeps _ _ _ c.link_busy.ensures c.make_below.ensures.keeps) (λ k. refl) (λ k. refl) (λ k i. i) refl
-
-pub invariant_of-self-in_err-make_seats : goal.invariant_of-self-in_err-make_seats
-invariant_of-self-in_err-make_seats g c =
-    let seats = c.make_seats.ensures in
-    made_failed _ _ _ _ _ _ c.self.invariant (ap (λ (z : PassView). z.state) c.self.view_is ∙ c.requires.failed) (linked_keeps _ _ _ c.link_busy.ensures c.make_below.ensures.keeps) seats.seats seats.marks seats.keeps refl
-
-pub invariant_of-self-in_err-add : goal.invariant_of-self-in_err-add
-invariant_of-self-in_err-add g c =
-    let seats = c.make_seats.ensures in
-    made_failed _ _ _ _ _ _ c.self.invariant (ap (λ (z : PassView). z.state) c.self.view_is ∙ c.requires.failed) (linked_keeps _ _ _ c.link_busy.ensures c.make_below.ensures.keeps) seats.seats seats.marks seats.keeps c.add.ensures.rest
+pub invariant_of-self-in_err-come_below : goal.invariant_of-self-in_err-come_below
+invariant_of-self-in_err-come_below g c =
+    let below = c.come_below.ensures in
+    made_failed _ _ _ _ _ _ c.self.invariant (ap (λ (z : PassView). z.state) c.self.view_is ∙ c.requires.failed) (linked_keeps _ _ _ c.link_busy.ensures c.make_below.ensures.keeps) below.seats below.marks below.keeps below.rest
 
 pub invariant_of-self-2 : goal.invariant_of-self-2
 invariant_of-self-2 g c =
-    let seats = c.make_seats.ensures in
-    made_failed _ _ _ _ _ _ c.self.invariant (ap (λ (z : PassView). z.state) c.self.view_is ∙ c.requires.failed) (linked_keeps _ _ _ c.link_busy.ensures c.make_below.ensures.keeps) seats.seats seats.marks seats.keeps c.add.ensures.rest
+    let below = c.come_below.ensures in
+    made_failed _ _ _ _ _ _ c.self.invariant (ap (λ (z : PassView). z.state) c.self.view_is ∙ c.requires.failed) (linked_keeps _ _ _ c.link_busy.ensures c.make_below.ensures.keeps) below.seats below.marks below.keeps below.rest
 
 pub returns-clause-fresh : goal.returns-clause-fresh
 returns-clause-fresh g c =
-    let seats = c.in_ok-make_seats.ensures in
-    let front = c.in_ok-front.ensures in
+    let below = c.in_ok-come_below.ensures in
     fresh_at _ _ c.args.level c.self.view_is c.requires.asked c.args.parents.now c.requires.found _ c.target-system.ensures _ _ (linked_keeps _ _ _ c.link_busy.ensures c.make_below.ensures.keeps) (linked_made _ _ _ c.link_busy.ensures _ _ _ c.in_ok-told.ensures.made)
-    c.args.symbols c.requires.symbols c.requires.within _ _ _ _ seats.seats seats.keeps seats.room front.bare front.told front.looks front.below c.requires.below
+    c.args.symbols c.requires.symbols c.requires.within _ _ _ _ below.seats below.keeps below.room below.next.bare below.next.told below.next.looks below.next.below c.requires.below
 
 pub returns-clause-goes : goal.returns-clause-goes
 returns-clause-goes g c =
-    let seats = c.in_ok-make_seats.ensures in
-    let front = c.in_ok-front.ensures in
+    let below = c.in_ok-come_below.ensures in
     goes_at _ _ c.args.level c.self.view_is c.requires.asked c.args.parents.now c.requires.found _ c.target-system.ensures _ _ (linked_keeps _ _ _ c.link_busy.ensures c.make_below.ensures.keeps) (linked_made _ _ _ c.link_busy.ensures _ _ _ c.in_ok-told.ensures.made)
-    c.args.symbols c.requires.symbols c.requires.within c.make_seats.new.seats c.add.new.self.rest.items c.add.new.self.made.items c.in_ok-front.front seats.seats seats.keeps seats.room front.bare front.told front.looks front.below c.requires.below
+    c.args.symbols c.requires.symbols c.requires.within c.come_below.new.seats c.come_below.new.sizes.rest.items c.come_below.new.sizes.made.items c.come_below.new.front below.seats below.keeps below.room below.next.bare below.next.told below.next.looks below.next.below c.requires.below
 
 pub returns-clause-made : goal.returns-clause-made
 returns-clause-made g c =
     made_at _ _ c.args.level c.self.view_is c.requires.asked c.args.parents.now c.requires.found _ c.target-system.ensures _ _ (linked_keeps _ _ _ c.link_busy.ensures c.make_below.ensures.keeps) (linked_made _ _ _ c.link_busy.ensures _ _ _ c.in_ok-told.ensures.made)
-    c.args.symbols c.requires.symbols c.requires.within _ c.in_ok-add.ensures.made
+    c.args.symbols c.requires.symbols c.requires.within _ c.in_ok-come_below.ensures.made
 
 pub returns-clause-answers : goal.returns-clause-answers
 returns-clause-answers g c =
