@@ -1,4 +1,4 @@
-use Rattle.std.proofs.Common.{sym, subst}
+use Rattle.std.proofs.Common.{subst}
 use Rattle.std.proofs.lemmas.Result.{IfOk-weaker}
 use Rattle.lsys_candidates.specs.Others.{RulesOf}
 use Rattle.lsys_pass.specs.Others.{AreUnlike}

@@ -1,4 +1,4 @@
-use Rattle.std.proofs.Common.{◌+◌, ◌<◌, sym, subst, ap, ◌∙◌, arith}
+use Rattle.std.proofs.Common.{◌<◌, sym, subst, ap, ◌∙◌, arith}
 use Rattle.lsys_pass.specs.Passes.{PassView, IsPass}
 use Rattle.lsys_pass.specs.Moves.{SameRun}
 use Rattle.lsys_pass.specs.Fresh.{WasAsked}
