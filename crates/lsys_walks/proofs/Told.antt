@@ -1,5 +1,6 @@
 -- What was told so far, and what is still to be told.
-use Rattle.std.proofs.Common.{◌≡◌, ℕ, List, [], ◌∷◌, ◌++◌, ◌+◌, ◌<◌, ◌≤◌, length, take, map, Result, Ok, Err, OnErr, Option, Some, None, refl, ap, sym, ◌∙◌, subst, arith, append_assoc, append-nil, length-append}
+use Rattle.std.proofs.Common.{◌≡◌, ℕ, List, [], ◌∷◌, ◌++◌, ◌+◌, ◌<◌, ◌≤◌, length, take, map, Result, Ok, Err, IfOk, OnErr, Option, Some, None, refl, ap, sym, ◌∙◌, subst, arith, append_assoc, append-nil, length-append}
+use Rattle.std.specs.Prelude.{IsErrAnd}
 use Rattle.std.proofs.lemmas.List.{length_push, take_at, length-map, map-append}
 use Rattle.lsys_spec.specs.Levels.{ModuleValue}
 use Rattle.lsys_spec.specs.Walks.{Entry, Told, says, before}
@@ -12,6 +13,11 @@ use Rattle.lsys_walks.specs.Walked.{Walks, ReadsFront}
 pub on_err : {T E : Type 0} (r : Result T E) (P : Type 0) → P → OnErr r P
 on_err (Ok x) P h = tt
 on_err (Err e) P h = h
+
+-- nothing is told where the result is an error
+pub on_bad : {T E : Type 0} (r : Result T E) (Q : E → Type 0) (P : T → Type 0) → IsErrAnd r Q → IfOk r P
+on_bad (Ok x) Q P h = absurd h
+on_bad (Err e) Q P h = tt
 
 -- where nothing matches, nothing is kept
 pub kept_as : (w : Walked) (most : ℕ) (t : Told (Option (List ModuleValue))) (old new : List Entry) (Kept Kept' : List ModuleValue → Type 0) → w ≡ Missed → Walks most t old new Kept w → Walks most t old new Kept' w
