@@ -189,10 +189,9 @@ near_to_behind l zero ps n h near = near
 near_to_behind l (suc k) [] n h near = tt
 near_to_behind l (suc k) (p ∷ ps) n h near = near_to_behind l k ps n h near
 
-pub found_skips : (l : Lattice) (ps : List ImagePiece) (p : ImagePiece) (qs rest : List ImagePiece) (n : ℕ) (h : Stand) → ps ≡ p ∷ qs → p.symbols ≤ n → rest ≡ drop (p.pieces - 1) qs
+pub found_skips : (l : Lattice) (ps : List ImagePiece) (p : ImagePiece) (qs rest : List ImagePiece) (n : ℕ) (h : Stand) → ps ≡ p ∷ qs → nat_lt n p.symbols ≡ false → rest ≡ drop (p.pieces - 1) qs
     → found l 0 rest (n - p.symbols) h ≡ found l 0 ps n h
-found_skips l ps p qs rest n h e less is =
-    let past : nat_lt n p.symbols ≡ false = grind (arith, nat_tests) in
+found_skips l ps p qs rest n h e past is =
     ap (λ rs. found l 0 rs (n - p.symbols) h) is
     ∙ sym (found_behind l (p.pieces - 1) qs (n - p.symbols) h)
     ∙ sym (skipped l p qs n h past)
@@ -201,10 +200,9 @@ found_skips l ps p qs rest n h e less is =
     skipped : (l : Lattice) (p : ImagePiece) (qs : List ImagePiece) (n : ℕ) (h : Stand) → nat_lt n p.symbols ≡ false → found l 0 (p ∷ qs) n h ≡ found l (p.pieces - 1) qs (n - p.symbols) h
     skipped l p qs n h past = rw past refl
 
-pub near_skips : (l : Lattice) (ps : List ImagePiece) (p : ImagePiece) (qs rest : List ImagePiece) (n : ℕ) (h : Stand) → ps ≡ p ∷ qs → p.symbols ≤ n → rest ≡ drop (p.pieces - 1) qs
+pub near_skips : (l : Lattice) (ps : List ImagePiece) (p : ImagePiece) (qs rest : List ImagePiece) (n : ℕ) (h : Stand) → ps ≡ p ∷ qs → nat_lt n p.symbols ≡ false → rest ≡ drop (p.pieces - 1) qs
     → IsNearTo l 0 ps n h → IsNearTo l 0 rest (n - p.symbols) h
-near_skips l ps p qs rest n h e less is near =
-    let past : nat_lt n p.symbols ≡ false = grind (arith, nat_tests) in
+near_skips l ps p qs rest n h e past is near =
     subst (λ rs. IsNearTo l 0 rs (n - p.symbols) h) (sym is)
     (near_to_behind l (p.pieces - 1) qs (n - p.symbols) h (skipped l p qs n h past (subst (λ rs. IsNearTo l 0 rs n h) e near)))
   where

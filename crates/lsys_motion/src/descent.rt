@@ -17,7 +17,7 @@ pub(crate) fn stand_before<T: Lattice>(pieces: &[Piece<T>], symbol: u32) -> Stan
     let mut left = symbol;
     let mut rest = pieces;
     'down: while let Some((piece, inner)) = rest.split_first() {
-        if left < piece.symbols {
+        if piece.holds(left) {
             here = here.beyond(&piece.start);
             if piece.pieces == 1 {
                 return here;

@@ -1,4 +1,5 @@
 //! Pieces of an image.
+ghost use Rattle.std.specs.Prelude.{◌≡◌, nat_lt};
 
 use crate::stand::Stand;
 use lsys_lattice::Lattice;
@@ -21,4 +22,13 @@ impl<T: Lattice> Model for Piece<T> {
     ghost Value = { shapes.ImagePiece };
 
     ghost view = { λ p. record { symbols = p.symbols; pieces = p.pieces; start = p.start } };
+}
+
+impl<T: Lattice> Piece<T> {
+    /// Whether this symbol is in it, where its own are counted from 0.
+    pub(crate) fn holds(&self, symbol: u32) -> bool
+        ensures { result ≡ nat_lt symbol self.now.symbols }
+    {
+        symbol < self.symbols
+    }
 }
