@@ -63,11 +63,20 @@ read_front t naming read f l =
 pub counts_some : (T : Type 0) (n old new k : ℕ) → new ≡ old + k → k ≤ n → CountsEntries {T = T} n old new (Err Memory)
 counts_some T n old new k e l = (omega (arith, e), omega (arith, e, l))
 
+pub counts_all : (T : Type 0) (n old new : ℕ) (e : AskRefusal) → new ≡ old + n → CountsEntries {T = T} n old new (Err e)
+counts_all T n old new (Fault k) h = h
+counts_all T n old new Memory h = (omega (arith, h), omega (arith, h))
+
 -- 3. errors that are passed on
 
 pub by_err : {T E : Type 0} (r : Result T E) (P : E → Type 0) (G : Result T E → Type 0) → IsErr r × IsErrAnd r P → ((e : E) → P e → G (Err e)) → G r
 by_err (Ok a) P G h f = absurd h.1
 by_err (Err e) P G h f = f e h.1
+
+-- one that is the same
+pub err_is : {T E : Type 0} (r : Result T E) (e : E) → IsErr r × IsErrAnd r (λ y. y ≡ e) → r ≡ Err e
+err_is (Ok a) e h = absurd h.1
+err_is (Err y) e h = ap (λ y. Err y) h.1
 
 -- 4. the whole
 

@@ -76,6 +76,16 @@ HasFittingParams (Some t) = arities t.entries.now ≡ length t.values.now
 abbrev pub reply_answer : Posed → Reply → TagAnswer
 reply_answer d r = record { question = record { posed = d; trace = r.trace }; chosen = r.chosen; successor = string_of r.successor }
 
+-- the reply, where this was read and chosen, or why it has no successor
+abbrev pub IsReply : List Body → ModuleValue → List Noted → Option ℕ → List ℤ → Result Reply AskRefusal → Type 0
+IsReply bs m read chosen values (Ok r) = (r.trace ≡ read) × (r.chosen ≡ chosen) × IsSuccessor bs m chosen values (Ok r.successor)
+IsReply bs m read chosen values (Err e) = IsSuccessor bs m chosen values (Err e)
+
+-- the reply to what is posed
+abbrev pub IsReplyOf : CodePosed → List Noted → Option ℕ → List ℤ → Result Reply AskRefusal → Type 0
+IsReplyOf q read chosen values r =
+    let own = module_named q.name q.params.now in IsReply (rules_of q.group) own read chosen values r
+
 -- the old trace was read; or another one, and this is the answer; or the fault
 abbrev pub IsTelling : ((ℕ → List ℕ) → Told choice.Choice) → Posed → Option (List Noted) → Result CodeTold AskRefusal → Type 0
 IsTelling told d old (Ok Same) = (was : List Noted) × (old ≡ Some was) × ((naming : ℕ → List ℕ) → entries_by naming was ≡ trace_told (told naming))

@@ -2,7 +2,7 @@
 ghost use Rattle.std.specs.Prelude.{◌≡◌, ◌↔◌, ◌≤◌, [], length, IsTrue, Some};
 ghost use Rattle.lsys_level.specs.Spots.{IsSpot};
 ghost use Rattle.lsys_match.specs.Asking.{posed_by};
-ghost use Rattle.lsys_match.specs.Telling.{HasFittingParams, IsOldTrace, IsChosenPlace, old_trace, CountsTold, IsTellingOf};
+ghost use Rattle.lsys_match.specs.Telling.{HasFittingParams, IsOldTrace, IsChosenPlace, old_trace, CountsTold, IsReplyOf, IsTellingOf};
 ghost use Rattle.lsys_match.specs.AskedSpots.{CountsToldAt, IsTellingAt};
 
 use crate::choice::Choice;
@@ -90,12 +90,28 @@ impl<'a> Posed<'a> {
         if is_read(old, &trace) {
             return Ok(Told::Same);
         }
+        match self.reply(trace, chosen, scratch) {
+            Ok(reply) => Ok(Told::Other(reply)),
+            Err(refusal) => Err(refusal),
+        }
+    }
+
+    /// The reply, where this was read and chosen. The values of the chosen rule's formals are in `scratch`.
+    fn reply(
+        &self,
+        trace: Reading<'_>,
+        chosen: Option<u8>,
+        scratch: &mut Scratch,
+    ) -> Result<Reply, AskRefusal>
+        requires { length self.now.params.now ≤ 8 }
+        ensures { IsReplyOf self.now trace.entry.read chosen scratch.old.bound.items result }
+    {
         let successor = self.successor(&mut scratch.symbols, chosen, &scratch.bound)?;
-        Ok(Told::Other(Reply {
+        Ok(Reply {
             trace: trace.finish()?,
             chosen,
             successor,
-        }))
+        })
     }
 }
 

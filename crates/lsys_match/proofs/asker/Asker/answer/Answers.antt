@@ -5,6 +5,7 @@ use Rattle.lsys_match.specs.declared.told.Told.{Told as CodeTold}
 use Rattle.lsys_match.specs.declared.told.Told.TheVariants.{Same, Other}
 use Rattle.lsys_match.specs.Asking.{posed_by, site_of, told_for}
 use Rattle.lsys_match.specs.Telling.{IsTelling, old_trace}
+use Rattle.lsys_match.proofs.Telling.{err_is}
 use Rattle.lsys_match.proofs.Answering.{counted, counts_err, counts_ok, failed, few_read, new_answer, new_one, old_answer}
 use Rattle.lsys_match.proofs.asker.Asker.answer.Goals as goal
 
@@ -15,7 +16,7 @@ returns-in_err-reply-clause-answered g c =
     let row = spots_at levels c.args.self.now.level in
     let row' = spots_at levels (g.W.LevelView.level_of c.args.view.now c.args.spot) in
     let e : row' ≡ row = ap (spots_at levels) c.requires.level in
-    let r : c.from_residual.result ≡ Err c.in_err-reply.field-0.0 = search rules in
+    let r : c.from_residual.result ≡ Err c.in_err-reply.field-0.0 = err_is _ _ c.from_residual.ensures in
     let told = subst (IsTelling (λ naming. told_for naming (site_of c.args.posed.now row' p) (posed_by c.args.posed.now)) (posed_by c.args.posed.now) (old_trace c.trace_for-kept.result)) c.in_err-reply.was c.tell_at.ensures.told in
     λ naming tag m w. failed c.args.posed.now c.args.self.now.system c.args.self.now.level row row' p e c.requires.filter c.requires.posed naming tag m w _ c.args.store.now _ (old_trace c.trace_for-kept.result) c.in_err-reply.field-0.0 c.from_residual.result r told
 
@@ -26,7 +27,7 @@ returns-in_err-reply-clause-visited g c =
     let row = spots_at levels c.args.self.now.level in
     let row' = spots_at levels (g.W.LevelView.level_of c.args.view.now c.args.spot) in
     let e : row' ≡ row = ap (spots_at levels) c.requires.level in
-    let r : c.from_residual.result ≡ Err c.in_err-reply.field-0.0 = search rules in
+    let r : c.from_residual.result ≡ Err c.in_err-reply.field-0.0 = err_is _ _ c.from_residual.ensures in
     λ naming tag m w. let k = counted c.args.posed.now c.args.self.now.system c.args.self.now.level row row' p e c.requires.filter c.requires.posed naming tag m w CodeTold c.visited.inside.count c.args.visited.now c.tell_at.new.visited c.tell_at.result c.visited.view_is (c.tell_at.ensures.visited naming) in
     counts_err CodeTold _ _ c.args.visited.now c.tell_at.new.visited c.tell_at.result c.from_residual.result c.in_err-reply.field-0.0 c.in_err-reply.was r k
 
