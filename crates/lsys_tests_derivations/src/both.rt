@@ -1,6 +1,7 @@
 //! Scripts over both derivations.
 ghost use Rattle.std.specs.Prelude.{◌≤◌};
 
+use crate::same::is_same;
 use crate::writing::{written_over_a_forest, written_over_lists};
 use lsys_tests_scripts::{
     Script, algae, edits, limited, long_lines, pictures, refusals, script_of_images, steps,
@@ -13,32 +14,23 @@ use std::process::Abort;
 use std::sync::ledger::Blank;
 use std::test::Fail;
 
-/// What is written for a script over lists, and over a forest.
-fn written_over_both(
+/// What is written for a script over lists.
+fn over_lists(alloc: Global, limit: u32, room: usize, script: &[u8]) -> Result<Vec<u8>, AllocError>
+    requires { limit ≤ 1000000 }
+{
+    written_over_lists::<Brand, Brand>(alloc, limit, room, script, Blank::new(1), Blank::new(1))
+}
+
+/// What is written for a script over a forest.
+fn over_a_forest(
     alloc: Global,
     limit: u32,
     room: usize,
     script: &[u8],
-) -> Result<(Vec<u8>, Vec<u8>), AllocError>
+) -> Result<Vec<u8>, AllocError>
     requires { limit ≤ 1000000 }
 {
-    let lists = written_over_lists::<Brand, Brand>(
-        alloc,
-        limit,
-        room,
-        script,
-        Blank::new(1),
-        Blank::new(1),
-    )?;
-    let forest = written_over_a_forest::<Brand, Brand>(
-        alloc,
-        limit,
-        room,
-        script,
-        Blank::new(1),
-        Blank::new(1),
-    )?;
-    Ok((lists, forest))
+    written_over_a_forest::<Brand, Brand>(alloc, limit, room, script, Blank::new(1), Blank::new(1))
 }
 
 /// A script is answered with the same bytes over both, at most so many.
@@ -52,9 +44,22 @@ fn is_the_same(
 ) -> Result<(), Fail>
     requires { limit ≤ 1000000 }
 {
-    let (lists, forest) = written_over_both(alloc, limit, room, script)?;
-    assert!(rt; lists.as_slice() == forest.as_slice(), "{name}");
+    let lists = over_lists(alloc, limit, room, script)?;
+    let forest = over_a_forest(alloc, limit, room, script)?;
+    is_same(rt, name, &lists, &forest);
     Ok(())
+}
+
+/// A script that is made is answered with the same bytes over both, under the program's own limit.
+fn is_the_same_if_made(
+    rt: &impl Abort,
+    alloc: Global,
+    room: usize,
+    name: &str,
+    script: Result<Vec<u8>, AllocError>,
+) -> Result<(), Fail> {
+    let script = script?;
+    is_the_same(rt, alloc, 200_000, room, name, &script)
 }
 
 /// Scripts are answered with the same bytes over both, under the program's own limit.
@@ -110,33 +115,26 @@ fn limits_and_their_boundaries(rt: HostRuntime) -> Result<(), Fail> {
 #[test]
 fn long_lines_and_samples(rt: HostRuntime) -> Result<(), Fail> {
     let alloc = rt.alloc();
-    let script = long_lines(alloc)?;
-    is_the_same(&rt, alloc, 200_000, 65_536, "long lines", script.as_slice())?;
-    let script = sample(alloc, 0)?;
-    is_the_same(&rt, alloc, 200_000, 65_536, "a sample", script.as_slice())?;
-    let script = sample(alloc, 7)?;
-    is_the_same(
-        &rt,
-        alloc,
-        200_000,
-        65_536,
-        "another sample",
-        script.as_slice(),
-    )
+    is_the_same_if_made(&rt, alloc, 65_536, "long lines", long_lines(alloc))?;
+    is_the_same_if_made(&rt, alloc, 65_536, "a sample", sample(alloc, 0))?;
+    is_the_same_if_made(&rt, alloc, 65_536, "another sample", sample(alloc, 7))
 }
 
 #[test]
 fn the_largest_image_and_a_larger_one(rt: HostRuntime) -> Result<(), Fail> {
     let alloc = rt.alloc();
-    let script = script_of_images(alloc, 126)?;
-    is_the_same(&rt, alloc, 200_000, 65_536, "too large", script.as_slice())?;
-    let script = script_of_images(alloc, 125)?;
-    is_the_same(
+    is_the_same_if_made(
         &rt,
         alloc,
-        200_000,
+        65_536,
+        "too large",
+        script_of_images(alloc, 126),
+    )?;
+    is_the_same_if_made(
+        &rt,
+        alloc,
         33_554_432,
         "the largest",
-        script.as_slice(),
+        script_of_images(alloc, 125),
     )
 }

@@ -15,6 +15,8 @@ mod orders;
 #[cfg(test)]
 mod pass_edits;
 #[cfg(test)]
+mod same;
+#[cfg(test)]
 mod scripts;
 #[cfg(test)]
 mod tables;

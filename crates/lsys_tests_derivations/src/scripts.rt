@@ -4,14 +4,15 @@ ghost use Rattle.lsys_pass.specs.declared.state.PassState.TheVariants.{Rest};
 ghost use Rattle.lsys_pass.specs.Moves.{AtLevel};
 
 use crate::orders::Order;
-use lsys_io::{Buffered, MemorySink};
+use crate::same::is_same;
+use lsys_io::{Buffered, Failed, MemorySink};
 use lsys_level::copy_level;
 use lsys_match::Steps;
-use lsys_module::print_string;
+use lsys_module::{SymbolList, print_string};
 use lsys_pass::{Pass, PassState};
 use lsys_rewrite::{DeriveRefusal, EditCount};
-use lsys_rules::{Command, Refusal, System, apply, parse_command};
-use lsys_text::{TextRefusal, tokens};
+use lsys_rules::{Command, System, apply, parse_command};
+use lsys_text::tokens;
 use std::alloc::{AllocError, Global};
 use std::marker::Brand;
 use std::process::Abort;
@@ -19,16 +20,22 @@ use std::sync::ledger::{Blank, Ledger};
 use std::test::Fail;
 
 /// The command of a line.
-fn command_of(alloc: Global, line: &str) -> Result<Command, Refusal> {
+fn command_of(alloc: Global, line: &str) -> Result<Command, AllocError> {
     if line.len() > 65536 {
-        return Err(Refusal::LongLine);
+        return Err(AllocError);
     }
-    let found = match tokens(alloc, line.as_bytes()) {
-        Ok(found) => found,
-        Err(TextRefusal::Byte { column }) => return Err(Refusal::Byte { column }),
-        Err(TextRefusal::Memory) => return Err(Refusal::Memory),
-    };
-    parse_command(alloc, found.as_slice(), line.len() as u32)
+    match tokens(alloc, line.as_bytes()) {
+        Ok(found) => {
+            parse_command(alloc, found.as_slice(), line.len() as u32).map_err(|_| AllocError)
+        }
+        Err(_) => Err(AllocError),
+    }
+}
+
+/// The system after the edit of a line.
+fn next_system(alloc: Global, system: &System, line: &str) -> Result<System, AllocError> {
+    let command = command_of(alloc, line)?;
+    apply(alloc, system, &command).map_err(|_| AllocError)
 }
 
 /// Asks all nodes that are pending, in this order.
@@ -69,21 +76,23 @@ fn make_levels<L: Ledger, V: Ledger>(
     Ok(())
 }
 
-/// Makes the levels of another system; where it has none, the pass goes back to its rest.
-fn edit<L: Ledger, V: Ledger>(
+/// Begins to make the levels of another system, from rest.
+fn begin<L: Ledger>(
     alloc: Global,
     pass: &mut Pass<L>,
     system: System,
-    order: &mut Order,
-    asked: &mut Steps<L>,
-    visited: &mut Steps<V>,
+) -> Result<(), DeriveRefusal> {
+    match pass.state() {
+        PassState::Rest => pass.begin(alloc, system),
+        _ => Err(DeriveRefusal::Memory),
+    }
+}
+
+/// Keeps the levels that were made; where one wasn't, the pass goes back to its rest.
+fn end<L: Ledger>(
+    pass: &mut Pass<L>,
+    made: Result<(), DeriveRefusal>,
 ) -> Result<EditCount, DeriveRefusal> {
-    let PassState::Rest = pass.state() else {
-        return Err(DeriveRefusal::Memory);
-    };
-    let depth = system.depth();
-    pass.begin(alloc, system)?;
-    let made = make_levels(alloc, pass, depth, order, asked, visited);
     match pass.state() {
         PassState::Done => Ok(pass.close()),
         PassState::Rest => Err(DeriveRefusal::Memory),
@@ -94,25 +103,68 @@ fn edit<L: Ledger, V: Ledger>(
     }
 }
 
-/// What is replied to an edit.
-fn reply(alloc: Global, edited: Result<EditCount, DeriveRefusal>) -> Result<String, AllocError> {
-    match edited {
-        Ok(count) => format!(in alloc; "ok {}/{}", count.asked, count.questions),
-        Err(
-            DeriveRefusal::Fault {
-                kind,
-                level,
-                module,
-            },
-        ) => {
+/// Makes the levels of another system; where it has none, the pass goes back to its rest.
+fn edit<L: Ledger, V: Ledger>(
+    alloc: Global,
+    pass: &mut Pass<L>,
+    system: System,
+    order: &mut Order,
+    asked: &mut Steps<L>,
+    visited: &mut Steps<V>,
+) -> Result<EditCount, DeriveRefusal> {
+    let depth = system.depth();
+    begin(alloc, pass, system)?;
+    let made = make_levels(alloc, pass, depth, order, asked, visited);
+    end(pass, made)
+}
+
+/// What is replied to an edit that is refused.
+fn refusal(alloc: Global, refusal: DeriveRefusal) -> Result<String, AllocError> {
+    match refusal {
+        DeriveRefusal::Fault {
+            kind,
+            level,
+            module,
+        } => {
             format!(in alloc;
                 "refused fault {} level {level} module {module}",
                 kind.word()
             )
         }
-        Err(DeriveRefusal::Limit { level }) => format!(in alloc; "refused limit level {level}"),
-        Err(DeriveRefusal::Memory) => Err(AllocError),
+        DeriveRefusal::Limit { level } => format!(in alloc; "refused limit level {level}"),
+        DeriveRefusal::Memory => Err(AllocError),
     }
+}
+
+/// What is replied to an edit.
+fn reply(alloc: Global, edited: Result<EditCount, DeriveRefusal>) -> Result<String, AllocError> {
+    match edited {
+        Ok(count) => format!(in alloc; "ok {}/{}", count.asked, count.questions),
+        Err(refused) => refusal(alloc, refused),
+    }
+}
+
+/// Prints a string to a sink.
+fn print(alloc: Global, symbols: &SymbolList, sink: &mut MemorySink) -> Result<(), AllocError> {
+    let mut out = Buffered::new(alloc)?;
+    put_string(symbols, &mut out, sink).map_err(|_| AllocError)
+}
+
+/// Puts the text of a string, and writes it.
+fn put_string(
+    symbols: &SymbolList,
+    out: &mut Buffered,
+    sink: &mut MemorySink,
+) -> Result<(), Failed> {
+    print_string(out, sink, symbols)?;
+    out.flush(sink)
+}
+
+/// The text of a string.
+fn text_of(alloc: Global, symbols: &SymbolList) -> Result<Vec<u8>, AllocError> {
+    let mut sink = MemorySink::new(alloc, 65536, 7, Vec::new(alloc))?;
+    print(alloc, symbols, &mut sink)?;
+    Vec::from_slice(alloc, sink.bytes())
 }
 
 /// The text of the last level of a pass at rest.
@@ -120,11 +172,29 @@ fn last_string<L: Ledger>(alloc: Global, pass: &Pass<L>) -> Result<Vec<u8>, Allo
     requires rest { pass.now.state ≡ Rest }
 {
     let symbols = copy_level(alloc, pass.forest(), pass.system().depth())?;
-    let mut sink = MemorySink::new(alloc, 65536, 7, Vec::new(alloc))?;
-    let mut out = Buffered::new(alloc)?;
-    print_string(&mut out, &mut sink, &symbols).map_err(|_| AllocError)?;
-    out.flush(&mut sink).map_err(|_| AllocError)?;
-    Vec::from_slice(alloc, sink.bytes())
+    text_of(alloc, &symbols)
+}
+
+/// The text of the last level of a pass, if it is at rest.
+fn string_at_rest<L: Ledger>(alloc: Global, pass: &Pass<L>) -> Result<Vec<u8>, AllocError> {
+    match pass.state() {
+        PassState::Rest => last_string(alloc, pass),
+        _ => Err(AllocError),
+    }
+}
+
+/// What is replied to an edit by its system.
+fn reply_by<L: Ledger, V: Ledger>(
+    alloc: Global,
+    pass: &mut Pass<L>,
+    system: System,
+    order: &mut Order,
+    asked: &mut Steps<L>,
+    visited: &mut Steps<V>,
+) -> Result<Vec<u8>, AllocError> {
+    let edited = edit(alloc, pass, system, order, asked, visited);
+    let reply = reply(alloc, edited)?;
+    Vec::from_slice(alloc, reply.as_bytes())
 }
 
 /// What is replied to a line: an edit, or `string`.
@@ -137,15 +207,10 @@ fn answered<L: Ledger, V: Ledger>(
     visited: &mut Steps<V>,
 ) -> Result<Vec<u8>, AllocError> {
     if line == "string" {
-        return match pass.state() {
-            PassState::Rest => last_string(alloc, pass),
-            _ => Err(AllocError),
-        };
+        return string_at_rest(alloc, pass);
     }
-    let command = command_of(alloc, line).map_err(|_| AllocError)?;
-    let system = apply(alloc, pass.system(), &command).map_err(|_| AllocError)?;
-    let edited = edit(alloc, pass, system, order, asked, visited);
-    Vec::from_slice(alloc, reply(alloc, edited)?.as_bytes())
+    let system = next_system(alloc, pass.system(), line)?;
+    reply_by(alloc, pass, system, order, asked, visited)
 }
 
 /// The reply of a pass to a line is this one.
@@ -160,7 +225,7 @@ fn is_answered<L: Ledger, V: Ledger>(
 ) -> Result<(), Fail> {
     let (line, reply) = row;
     let found = answered(alloc, pass, line, order, asked, visited)?;
-    assert!(rt; found.as_slice() == reply.as_bytes(), "{line:?}");
+    is_same(rt, line, &found, reply.as_bytes());
     Ok(())
 }
 
@@ -181,6 +246,48 @@ fn are_answered<L: Ledger, V: Ledger>(
     Ok(())
 }
 
+/// What plays scripts.
+trait Plays<L: Ledger> {
+    /// The reply to each line of a script is the one beside it.
+    fn plays<V: Ledger, R: Abort>(
+        &mut self,
+        rt: &R,
+        alloc: Global,
+        script: &[(&str, &str)],
+        order: Order,
+        asked: &mut Steps<L>,
+        visited: &mut Steps<V>,
+    ) -> Result<(), Fail>;
+}
+
+impl<L: Ledger> Plays<L> for Pass<L> {
+    fn plays<V: Ledger, R: Abort>(
+        &mut self,
+        rt: &R,
+        alloc: Global,
+        script: &[(&str, &str)],
+        order: Order,
+        asked: &mut Steps<L>,
+        visited: &mut Steps<V>,
+    ) -> Result<(), Fail> {
+        are_answered(rt, alloc, self, script, order, asked, visited)
+    }
+}
+
+/// Plays a script on what is made. It knows of no pass, since one that waits to be dropped costs the proof much.
+fn plays_on<L: Ledger, V: Ledger, P: Plays<L> + Drop>(
+    rt: &impl Abort,
+    alloc: Global,
+    made: Result<P, AllocError>,
+    script: &[(&str, &str)],
+    order: Order,
+    asked: &mut Steps<L>,
+    visited: &mut Steps<V>,
+) -> Result<(), Fail> {
+    let mut pass = made?;
+    pass.plays(rt, alloc, script, order, asked, visited)
+}
+
 /// The reply of a new pass to each line of a script is the one beside it.
 fn on_a_new_pass<L: Ledger, V: Ledger>(
     rt: &impl Abort,
@@ -190,8 +297,8 @@ fn on_a_new_pass<L: Ledger, V: Ledger>(
     asked: &mut Steps<L>,
     visited: &mut Steps<V>,
 ) -> Result<(), Fail> {
-    let mut pass = Pass::<L>::new(alloc, 1000)?;
-    are_answered(rt, alloc, &mut pass, script, order, asked, visited)
+    let made = Pass::<L>::new(alloc, 1000);
+    plays_on(rt, alloc, made, script, order, asked, visited)
 }
 
 /// The same, with these names for what is counted.
@@ -215,18 +322,23 @@ fn is_played<L: Ledger, V: Ledger>(
     on_a_new_pass(rt, alloc, script, order, &mut asked, &mut visited)
 }
 
+/// The orders in which nodes are asked.
+fn orders() -> &'static [Order] {
+    &[
+        Order::FromLeft,
+        Order::FromRight,
+        Order::ByChance(88172645463325252),
+    ]
+}
+
 /// Each line of a script has the reply beside it, in whatever order nodes are asked.
 pub(crate) fn has_replies(
     rt: &impl Abort,
     alloc: Global,
     script: &[(&str, &str)],
 ) -> Result<(), Fail> {
-    for order in [
-        Order::FromLeft,
-        Order::FromRight,
-        Order::ByChance(88172645463325252),
-    ] {
-        is_played::<Brand, Brand>(rt, alloc, script, order, Blank::new(1), Blank::new(1))?;
+    for order in orders() {
+        is_played::<Brand, Brand>(rt, alloc, script, *order, Blank::new(1), Blank::new(1))?;
     }
     Ok(())
 }

@@ -1,7 +1,8 @@
-//! What is held behind each line of short scripts.
+//! What is held behind each line of a script, in a session of its own.
 ghost use Rattle.std.specs.Prelude.{◌≡◌, ◌<◌};
 
-use crate::holding::{TellsHeld, are_held, holds};
+use crate::cases::are_refused;
+use crate::holding::{Row, TellsHeld, are_held, holds};
 use lsys_match::{Derivation, Steps};
 use lsys_pass::ForestDerivation;
 use lsys_session::Session;
@@ -12,7 +13,7 @@ use std::sync::ledger::{Blank, Ledger};
 use std::test::Fail;
 
 /// Algae and its continuation: lines, their replies, and the numbers of nodes and of answers behind them.
-fn algae() -> &'static [(&'static str, &'static str, u64, u64)] {
+fn algae() -> &'static [Row] {
     &[
         ("axiom A", "ok 0/0\n", 2, 0),
         ("production a: A => AB", "ok 0/0\n", 2, 0),
@@ -26,7 +27,7 @@ fn algae() -> &'static [(&'static str, &'static str, u64, u64)] {
 }
 
 /// A fault, which leaves nothing behind.
-fn a_fault() -> &'static [(&'static str, &'static str, u64, u64)] {
+fn a_fault() -> &'static [Row] {
     &[
         ("axiom A(10)", "ok 0/0\n", 2, 0),
         ("production p: A(x) => A(x*x)", "ok 0/0\n", 2, 0),
@@ -35,11 +36,36 @@ fn a_fault() -> &'static [(&'static str, &'static str, u64, u64)] {
     ]
 }
 
-/// The opening state holds the root alone, and then each line is answered so, and so much is held behind it.
-fn are_held_over<L: Ledger, V: Ledger, D: Derivation<L> + Drop + TellsHeld>(
+/// What is tried in a session.
+#[derive(Drop)]
+enum Tried {
+    /// Lines.
+    Rows(&'static [Row]),
+    /// Edits that are refused at each module of each level.
+    Refused,
+}
+
+/// The opening state holds the root alone, and then what is tried comes out so.
+fn comes_out<L: Ledger, V: Ledger, D: Derivation<L> + Drop + TellsHeld>(
     rt: &impl Abort,
     alloc: Global,
-    rows: &[(&str, &str, u64, u64)],
+    session: &mut Session<L, D>,
+    tried: &Tried,
+    asked: &mut Steps<L>,
+    visited: &mut Steps<V>,
+) -> Result<(), Fail> {
+    holds(rt, session, 1, 0);
+    match tried {
+        Tried::Rows(rows) => are_held(rt, alloc, session, *rows, asked, visited),
+        Tried::Refused => are_refused(rt, alloc, session, asked, visited),
+    }
+}
+
+/// The same in a session of its own.
+fn comes_out_over<L: Ledger, V: Ledger, D: Derivation<L> + Drop + TellsHeld>(
+    rt: &impl Abort,
+    alloc: Global,
+    tried: &Tried,
     asked: Blank,
     visited: Blank,
 ) -> Result<(), Fail>
@@ -53,15 +79,14 @@ fn are_held_over<L: Ledger, V: Ledger, D: Derivation<L> + Drop + TellsHeld>(
     let mut asked = Steps::<L>::open(asked);
     let mut visited = Steps::<V>::open(visited);
     let mut session = Session::<L, D>::start(alloc, 200_000)?;
-    holds(rt, &session, 1, 0);
-    are_held(rt, alloc, &mut session, rows, &mut asked, &mut visited)
+    comes_out(rt, alloc, &mut session, tried, &mut asked, &mut visited)
 }
 
 /// The same over a forest.
-fn are_held_over_a_forest<L: Ledger, V: Ledger>(
+fn comes_out_over_a_forest<L: Ledger, V: Ledger>(
     rt: &impl Abort,
     alloc: Global,
-    rows: &[(&str, &str, u64, u64)],
+    tried: &Tried,
     asked: Blank,
     visited: Blank,
 ) -> Result<(), Fail>
@@ -72,20 +97,25 @@ fn are_held_over_a_forest<L: Ledger, V: Ledger>(
     requires other_parts { visited.parts ≡ V.parts }
     requires other_some { 0 < visited.parts }
 {
-    are_held_over::<L, V, ForestDerivation<L>>(rt, alloc, rows, asked, visited)
+    comes_out_over::<L, V, ForestDerivation<L>>(rt, alloc, tried, asked, visited)
 }
 
 /// The same, with counters of its own.
-fn is_held(rt: &impl Abort, alloc: Global, rows: &[(&str, &str, u64, u64)]) -> Result<(), Fail> {
-    are_held_over_a_forest::<Brand, Brand>(rt, alloc, rows, Blank::new(1), Blank::new(1))
+fn is_tried(rt: &impl Abort, alloc: Global, tried: &Tried) -> Result<(), Fail> {
+    comes_out_over_a_forest::<Brand, Brand>(rt, alloc, tried, Blank::new(1), Blank::new(1))
 }
 
 #[test]
 fn an_edit_leaves_what_its_levels_and_questions_need(rt: HostRuntime) -> Result<(), Fail> {
-    is_held(&rt, rt.alloc(), algae())
+    is_tried(&rt, rt.alloc(), &Tried::Rows(algae()))
 }
 
 #[test]
 fn a_fault_leaves_nothing_behind(rt: HostRuntime) -> Result<(), Fail> {
-    is_held(&rt, rt.alloc(), a_fault())
+    is_tried(&rt, rt.alloc(), &Tried::Rows(a_fault()))
+}
+
+#[test]
+fn each_module_of_each_level_is_refused_and_leaves_nothing(rt: HostRuntime) -> Result<(), Fail> {
+    is_tried(&rt, rt.alloc(), &Tried::Refused)
 }
