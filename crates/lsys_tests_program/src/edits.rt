@@ -1,5 +1,6 @@
 //! Scripts are answered as they should be.
-use crate::ran_by;
+use crate::runs::ran_by;
+use crate::same::{is_status, is_written};
 use lsys_cli::Status;
 use lsys_tests_scripts::{
     Script, algae, bounds_and_places, edits, hostile_lines, limited, pictures, refusals, steps,
@@ -9,6 +10,30 @@ use std::alloc::Global;
 use std::process::Abort;
 use std::test::Fail;
 
+/// How a run ends by its replies: as refused where one of them is a refusal.
+fn end_of(replies: &str) -> Status {
+    if replies.contains("refused") {
+        Status::Refused
+    } else {
+        Status::Done
+    }
+}
+
+/// A run with these words on a script ends so, and writes these replies.
+fn is_ended(
+    rt: &impl Abort,
+    alloc: Global,
+    words: &[&str],
+    script: &[u8],
+    expected: (&str, Status, &str),
+) -> Result<(), Fail> {
+    let (name, end, replies) = expected;
+    let (status, written) = ran_by(alloc, words, script)?;
+    is_written(rt, name, &written, replies.as_bytes());
+    is_status(rt, name, status, end);
+    Ok(())
+}
+
 /// A run with these words writes the script's replies, and ends as refused where one of them is a refusal.
 fn is_answered(
     rt: &impl Abort,
@@ -16,20 +41,8 @@ fn is_answered(
     words: &[&str],
     script: &Script,
 ) -> Result<(), Fail> {
-    let (status, written) = ran_by(alloc, words, script.text.as_bytes())?;
-    assert_eq!(rt;
-        written.as_slice(),
-        script.replies.as_bytes(),
-        "{}",
-        script.name
-    );
-    let expected = if script.replies.contains("refused") {
-        Status::Refused
-    } else {
-        Status::Done
-    };
-    assert_eq!(rt; status, expected, "{}", script.name);
-    Ok(())
+    let expected = (script.name, end_of(script.replies), script.replies);
+    is_ended(rt, alloc, words, script.text.as_bytes(), expected)
 }
 
 /// Runs without words are answered so.
@@ -59,9 +72,13 @@ fn refused_lines(rt: HostRuntime) -> Result<(), Fail> {
 #[test]
 fn hostile_lines_are_refused(rt: HostRuntime) -> Result<(), Fail> {
     for (line, reply) in hostile_lines() {
-        let (status, written) = ran_by(rt.alloc(), &[], line)?;
-        assert_eq!(rt; written.as_slice(), reply.as_bytes(), "{line:?}");
-        assert_eq!(rt; status, Status::Refused, "{line:?}");
+        is_ended(
+            &rt,
+            rt.alloc(),
+            &[],
+            line,
+            (*reply, Status::Refused, *reply),
+        )?;
     }
     Ok(())
 }
@@ -81,16 +98,26 @@ fn bounds_and_places_of_pictures(rt: HostRuntime) -> Result<(), Fail> {
     are_answered(&rt, rt.alloc(), bounds_and_places())
 }
 
+/// A script is answered so under a limit.
+fn is_answered_under(
+    rt: &impl Abort,
+    alloc: Global,
+    limit: u32,
+    script: &Script,
+) -> Result<(), Fail> {
+    let limit = format!(in alloc; "{limit}")?;
+    is_answered(rt, alloc, &["--limit", limit.as_str()], script)
+}
+
 #[test]
 fn limits_and_their_boundaries(rt: HostRuntime) -> Result<(), Fail> {
     for (limit, name, text, replies) in limited() {
-        let limit = format!(in rt.alloc(); "{limit}")?;
         let script = Script {
             name: *name,
             text: *text,
             replies: *replies,
         };
-        is_answered(&rt, rt.alloc(), &["--limit", limit.as_str()], &script)?;
+        is_answered_under(&rt, rt.alloc(), *limit, &script)?;
     }
     Ok(())
 }

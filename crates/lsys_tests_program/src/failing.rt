@@ -1,5 +1,6 @@
 //! Runs whose ends fail, and on ends that never do.
-use crate::status_of;
+use crate::runs::{ran_over, status_of};
+use crate::same::{is_status, is_written};
 use lsys_cli::Status;
 use lsys_io::{MemorySink, MemorySource, NeverSink, NeverSource};
 use lsys_tests_scripts::{algae, hostile_lines};
@@ -15,11 +16,22 @@ fn ran_failing(
     read: u64,
     write: u64,
 ) -> Result<(Status, Vec<u8>), AllocError> {
+    let mut source = source_failing(alloc, script, read)?;
+    let mut sink = sink_failing(alloc, write)?;
+    ran_over(alloc, &[], &mut source, &mut sink)
+}
+
+/// A source of a script that gives pieces of 8 bytes and fails at this call.
+fn source_failing(alloc: Global, script: &[u8], read: u64) -> Result<MemorySource, AllocError> {
+    let failing = vec![in alloc; read]?;
     let bytes = Vec::from_slice(alloc, script)?;
-    let mut source = MemorySource::new(bytes, 8, vec![in alloc; read]?);
-    let mut sink = MemorySink::new(alloc, 4096, 4, vec![in alloc; write]?)?;
-    let status = status_of(alloc, &[], &mut source, &mut sink)?;
-    Ok((status, Vec::from_slice(alloc, sink.bytes())?))
+    Ok(MemorySource::new(bytes, 8, failing))
+}
+
+/// A sink that takes 4 bytes at most and fails at this call.
+fn sink_failing(alloc: Global, write: u64) -> Result<MemorySink, AllocError> {
+    let failing = vec![in alloc; write]?;
+    MemorySink::new(alloc, 4096, 4, failing)
 }
 
 /// A run whose ends fail at these calls ends so, and writes these replies.
@@ -32,8 +44,8 @@ fn is_failing(
     replies: &str,
 ) -> Result<(), Fail> {
     let (status, written) = ran_failing(alloc, script.as_bytes(), calls.0, calls.1)?;
-    assert_eq!(rt; status, expected, "{script:?}");
-    assert_eq!(rt; written.as_slice(), replies.as_bytes(), "{script:?}");
+    is_status(rt, script, status, expected);
+    is_written(rt, script, &written, replies.as_bytes());
     Ok(())
 }
 
@@ -57,6 +69,19 @@ fn failing_ends(rt: HostRuntime) -> Result<(), Fail> {
     Ok(())
 }
 
+/// Where these calls fail, a run ends so, and so many bytes of the replies are written.
+fn is_front(
+    rt: &impl Abort,
+    calls: (u64, u64),
+    (status, written): (Status, &[u8]),
+    (expected, count): (Status, usize),
+    replies: &[u8],
+) {
+    assert_eq!(rt; status, expected, "{calls:?}");
+    assert_eq!(rt; written.len(), count, "{calls:?}");
+    assert!(rt; replies.starts_with(written), "{calls:?}");
+}
+
 /// A run on a script whose ends fail at these calls ends so, and writes so many bytes of the replies.
 fn is_cut_off(
     rt: &impl Abort,
@@ -64,58 +89,59 @@ fn is_cut_off(
     script: &[u8],
     replies: &[u8],
     calls: (u64, u64),
-    expected: Status,
-    count: usize,
+    expected: (Status, usize),
 ) -> Result<(), Fail> {
     let (status, written) = ran_failing(alloc, script, calls.0, calls.1)?;
-    assert_eq!(rt; status, expected, "{calls:?}");
-    assert_eq!(rt; written.len(), count, "{calls:?}");
-    assert!(rt; replies.starts_with(written.as_slice()), "{calls:?}");
+    is_front(rt, calls, (status, &written), expected, replies);
     Ok(())
 }
 
-/// The source gives 8 bytes a call and fails at one call after another, until a run ends as without a fault: so many bytes
-/// are written each time, the replies to the whole lines before.
-fn fails_at_each_read(
-    rt: &impl Abort,
-    alloc: Global,
-    script: &[u8],
-    replies: &[u8],
-    counts: &[usize],
-    end: Status,
-) -> Result<(), Fail> {
-    for (place, count) in counts.iter().enumerate() {
-        let calls = (place as u64 + 1, 0);
-        is_cut_off(rt, alloc, script, replies, calls, Status::ReadFault, *count)?;
+/// The calls that fail where this one of the source does, for a read fault, or this one of the sink.
+fn calls_at(fault: Status, call: u64) -> (u64, u64) {
+    if fault == Status::ReadFault {
+        (call, 0)
+    } else {
+        (0, call)
     }
-    let calls = (counts.len() as u64 + 1, 0);
-    is_cut_off(rt, alloc, script, replies, calls, end, replies.len())
 }
 
-/// The sink takes 4 bytes a call at most and fails at one call after another, until a run ends as without a fault: so many
-/// bytes are written each time.
-fn fails_at_each_write(
+/// An end fails with this fault at one call after another, until a run ends as without a fault: so many bytes are written
+/// each time. The source gives 8 bytes a call, and what is written before it fails are the replies to the whole lines
+/// before. The sink takes 4 bytes a call at most.
+fn fails_at_each_call(
     rt: &impl Abort,
     alloc: Global,
     script: &[u8],
     replies: &[u8],
-    counts: &[usize],
+    (fault, counts): (Status, &[usize]),
     end: Status,
 ) -> Result<(), Fail> {
     for (place, count) in counts.iter().enumerate() {
-        let calls = (0, place as u64 + 1);
-        is_cut_off(
-            rt,
-            alloc,
-            script,
-            replies,
-            calls,
-            Status::WriteFault,
-            *count,
-        )?;
+        let calls = calls_at(fault, place as u64 + 1);
+        is_cut_off(rt, alloc, script, replies, calls, (fault, *count))?;
     }
-    let calls = (0, counts.len() as u64 + 1);
-    is_cut_off(rt, alloc, script, replies, calls, end, replies.len())
+    let calls = calls_at(fault, counts.len() as u64 + 1);
+    is_cut_off(rt, alloc, script, replies, calls, (end, replies.len()))
+}
+
+/// The same for each of the two ends.
+fn fails_at_each_end(
+    rt: &impl Abort,
+    alloc: Global,
+    script: &[u8],
+    replies: &[u8],
+    (reads, writes): (&[usize], &[usize]),
+    end: Status,
+) -> Result<(), Fail> {
+    fails_at_each_call(rt, alloc, script, replies, (Status::ReadFault, reads), end)?;
+    fails_at_each_call(
+        rt,
+        alloc,
+        script,
+        replies,
+        (Status::WriteFault, writes),
+        end,
+    )
 }
 
 /// How many bytes of the replies to algae are written before each read.
@@ -132,9 +158,8 @@ fn algae_by_writes() -> &'static [usize] {
 fn algae_with_an_end_that_fails_at_each_call(rt: HostRuntime) -> Result<(), Fail> {
     let script = algae().text.as_bytes();
     let replies = algae().replies.as_bytes();
-    let (reads, writes) = (algae_by_reads(), algae_by_writes());
-    fails_at_each_read(&rt, rt.alloc(), script, replies, reads, Status::Done)?;
-    fails_at_each_write(&rt, rt.alloc(), script, replies, writes, Status::Done)
+    let counts = (algae_by_reads(), algae_by_writes());
+    fails_at_each_end(&rt, rt.alloc(), script, replies, counts, Status::Done)
 }
 
 /// How many bytes of the replies to the hostile lines are written before each read.
@@ -150,24 +175,36 @@ fn hostile_by_writes() -> &'static [usize] {
     ]
 }
 
-/// The hostile lines as a script, and the replies to it.
-fn hostile_script(alloc: Global) -> Result<(Vec<u8>, Vec<u8>), AllocError> {
+/// The hostile lines as a script.
+fn hostile_script(alloc: Global) -> Result<Vec<u8>, AllocError> {
     let mut script = Vec::new(alloc);
-    let mut replies = Vec::new(alloc);
-    for (line, reply) in hostile_lines() {
+    for (line, _) in hostile_lines() {
         script.extend_from_slice(line)?;
         script.push(b'\n')?;
+    }
+    Ok(script)
+}
+
+/// The replies to the hostile lines.
+fn hostile_replies(alloc: Global) -> Result<Vec<u8>, AllocError> {
+    let mut replies = Vec::new(alloc);
+    for (_, reply) in hostile_lines() {
         replies.extend_from_slice(reply.as_bytes())?;
     }
-    Ok((script, replies))
+    Ok(replies)
 }
 
 #[test]
 fn hostile_lines_with_an_end_that_fails_at_each_call(rt: HostRuntime) -> Result<(), Fail> {
-    let (script, replies) = hostile_script(rt.alloc())?;
-    let (reads, writes) = (hostile_by_reads(), hostile_by_writes());
-    fails_at_each_read(&rt, rt.alloc(), &script, &replies, reads, Status::Refused)?;
-    fails_at_each_write(&rt, rt.alloc(), &script, &replies, writes, Status::Refused)
+    let script = hostile_script(rt.alloc())?;
+    let replies = hostile_replies(rt.alloc())?;
+    let counts = (hostile_by_reads(), hostile_by_writes());
+    fails_at_each_end(&rt, rt.alloc(), &script, &replies, counts, Status::Refused)
+}
+
+/// A sink that never fails has taken so many bytes.
+fn has_taken(rt: &impl Abort, sink: &NeverSink, count: u64) {
+    assert_eq!(rt; sink.count(), count);
 }
 
 #[test]
@@ -175,8 +212,8 @@ fn ends_that_never_fail(rt: HostRuntime) -> Result<(), Fail> {
     let mut source = NeverSource::new(Vec::from_slice(rt.alloc(), algae().text.as_bytes())?);
     let mut sink = NeverSink::new();
     let status = status_of(rt.alloc(), &[], &mut source, &mut sink)?;
-    assert_eq!(rt; status, Status::Done);
-    assert_eq!(rt; sink.count(), 44);
+    is_status(&rt, "algae", status, Status::Done);
+    has_taken(&rt, &sink, 44);
     Ok(())
 }
 

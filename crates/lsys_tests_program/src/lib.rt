@@ -8,6 +8,7 @@
 mod edits;
 #[cfg(test)]
 mod failing;
+#[cfg(test)]
 mod runs;
-
-pub use runs::{ran_by, status_of};
+#[cfg(test)]
+mod same;

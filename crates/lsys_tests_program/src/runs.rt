@@ -40,30 +40,40 @@ fn run<S: Source, K: Sink>(
     counted::<S, K, Brand, Brand>(alloc, words, source, sink, Blank::new(1), Blank::new(1))
 }
 
+/// Words that are owned.
+fn owned(alloc: Global, words: &[&str]) -> Result<Vec<String>, AllocError> {
+    let mut owned = Vec::new(alloc);
+    for word in words {
+        owned.push(String::from_str(alloc, *word)?)?;
+    }
+    Ok(owned)
+}
+
 /// The status of a run with these words.
-///
-/// # Errors
-///
-/// Want of memory for the words.
-pub fn status_of<S: Source, K: Sink>(
+pub(crate) fn status_of<S: Source, K: Sink>(
     alloc: Global,
     words: &[&str],
     source: &mut S,
     sink: &mut K,
 ) -> Result<Status, AllocError> {
-    let mut owned = Vec::new(alloc);
-    for word in words {
-        owned.push(String::from_str(alloc, *word)?)?;
-    }
-    Ok(run(alloc, owned.as_slice(), source, sink))
+    let words = owned(alloc, words)?;
+    Ok(run(alloc, words.as_slice(), source, sink))
+}
+
+/// What a run with these words over a source and a sink ends with, and what it writes.
+pub(crate) fn ran_over(
+    alloc: Global,
+    words: &[&str],
+    source: &mut MemorySource,
+    sink: &mut MemorySink,
+) -> Result<(Status, Vec<u8>), AllocError> {
+    let status = status_of(alloc, words, source, sink)?;
+    let written = Vec::from_slice(alloc, sink.bytes())?;
+    Ok((status, written))
 }
 
 /// What a run with these words on a script ends with, and what it writes, of which there is room for 65,536 bytes.
-///
-/// # Errors
-///
-/// Want of memory for the script, its words or what is written.
-pub fn ran_by(
+pub(crate) fn ran_by(
     alloc: Global,
     words: &[&str],
     script: &[u8],
@@ -71,6 +81,5 @@ pub fn ran_by(
     let bytes = Vec::from_slice(alloc, script)?;
     let mut source = MemorySource::new(bytes, 4096, Vec::new(alloc));
     let mut sink = MemorySink::new(alloc, 65_536, 4096, Vec::new(alloc))?;
-    let status = status_of(alloc, words, &mut source, &mut sink)?;
-    Ok((status, Vec::from_slice(alloc, sink.bytes())?))
+    ran_over(alloc, words, &mut source, &mut sink)
 }
