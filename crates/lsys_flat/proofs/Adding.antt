@@ -24,7 +24,7 @@ use Rattle.lsys_flat.proofs.Agreeing.{new_new, old_all, all_chained, distinct_at
 use Rattle.lsys_flat.proofs.Owning.{own_tags}
 use Rattle.lsys_flat.specs.declared.level.Level.{Level}
 use Rattle.lsys_flat.specs.Lines.{Descent, no_line}
-use Rattle.lsys_flat.specs.Revised.{Revised, tags_of, all_spots, with_level, AreAllNamed, above_level, AreOldLevels, GrowsByLevel, IsRevised, IsNextLevel, AreNamedBeside}
+use Rattle.lsys_flat.specs.Revised.{Revised, tags_of, all_spots, with_next_level, AreAllNamed, above_level, AreOldLevels, GrowsByLevel, IsRevised, IsNextLevel, AreNamedBeside}
 use Rattle.lsys_flat.proofs.Below.{LineAt, old_line, lines_count, new_line, tags_at, tags_push, distinct_above, distinct_push, level_short}
 use Rattle.lsys_flat.proofs.Seeing.{spots_same, all_spots_push, spots_have, string_balanced, no_cut}
 
@@ -197,10 +197,10 @@ line_beside seed xs ys r parts l k h e there n = same_line seed xs ys parts l k 
 
 -- one level more, by what was named beside the old level
 pub next_named : (seed : ℕ) (xs ys : List (List LevelSymbol)) (y : List LevelSymbol) (level : Level) (r : Revised) → IsRevised seed xs ys r → IsNextLevel seed xs ys y level → (l : Descent) → l ≡ get_or r.old_lines (length ys) no_line
-    → (origins : List Origin) → origins ≡ level.origins.items → (after : Revised) (tags : List ℕ) → AreNamedBeside l origins r after tags → after ≡ record r { supply = after.supply; mates = after.mates } → IsRevised seed xs (ys ++ y ∷ []) (with_level level tags after)
+    → (origins : List Origin) → origins ≡ level.origins.items → (after : Revised) (tags : List ℕ) → AreNamedBeside l origins r after tags → after ≡ record r { supply = after.supply; mates = after.mates } → IsRevised seed xs (ys ++ y ∷ []) (with_next_level level tags after)
 next_named seed xs ys y level r h n l e origins same after tags named rest =
     let k = subst (λ origins. AreNamedBeside l origins r after tags) same named in
-    subst (λ (after : Revised). IsRevised seed xs (ys ++ y ∷ []) (with_level level tags after)) (sym rest)
+    subst (λ (after : Revised). IsRevised seed xs (ys ++ y ∷ []) (with_next_level level tags after)) (sym rest)
     (next_by seed xs ys y level r h n l e after.mates tags after.supply k.paired k.named k.used k.taken)
 
 pub grows : {A E : Type 0} → (result : Result A E) (level : Level) (before with_it after : Revised) → OnOk result (after ≡ with_it) → GrowsByLevel level before with_it → OnOk result (GrowsByLevel level before after)

@@ -100,8 +100,8 @@ abbrev pub NamesBeside : Descent → List Origin → Lent Revised → List ℕ �
 NamesBeside old origins r tags = AreNamedBeside old origins r.entry.now r.exit.now tags
 
 -- a level with these tags is kept behind those that are there
-abbrev pub with_level : Level → List ℕ → Revised → Revised
-with_level level tags r = record r {
+abbrev pub with_next_level : Level → List ℕ → Revised → Revised
+with_next_level level tags r = record r {
   view = r.view ++ spots_of level.symbols tags level.keys.items ∷ [];
   lines = r.lines ++ record { origins = level.origins.items; tags = tags } ∷ [];
 }

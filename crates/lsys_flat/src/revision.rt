@@ -8,7 +8,7 @@ ghost use Rattle.lsys_level.specs.Spots.{Spotted};
 ghost use Rattle.lsys_level.specs.Tags.{HasOwnTags};
 ghost use Rattle.lsys_flat.specs.Lines.{line_of, no_line};
 ghost use Rattle.lsys_flat.specs.Supplies.{tags_held};
-ghost use Rattle.lsys_flat.specs.Revised.{with_level, CanAdd, GrowsByLevel, IsBegunBeside, NamesBeside};
+ghost use Rattle.lsys_flat.specs.Revised.{with_next_level, CanAdd, GrowsByLevel, IsBegunBeside, NamesBeside};
 
 use crate::ancestry::Ancestry;
 use crate::origin::Origin;
@@ -115,8 +115,8 @@ impl<'a> Revision<'a> {
         requires keys { length level.keys.items ≡ length level.symbols }
         requires balance { balanced 0 (string_of level.symbols) ≡ true }
         requires whole { has_cut level.symbols ≡ false }
-        requires own { HasOwnTags (with_level level tags.items self.old).view }
-        ensures kept { OnOk result (self.new ≡ with_level level tags.items self.old) }
+        requires own { HasOwnTags (with_next_level level tags.items self.old).view }
+        ensures kept { OnOk result (self.new ≡ with_next_level level tags.items self.old) }
         ensures olds { self.new.old_lines ≡ self.old.old_lines }
     {
         let copy = copy_of(self.alloc, tags.as_slice())?;
