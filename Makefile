@@ -23,7 +23,7 @@ help:
 	@echo '                         change what stands on it'
 	@echo 'make gallery             draws all scripts of examples/ with the proved program on one page, gallery/index.html'
 	@echo 'make check               the tests for between commits, without a proof: some minutes'
-	@echo 'make test                the whole gate, as .ci/run: some 5 hours of one processor from nothing'
+	@echo 'make test                the whole gate, as .ci/run: some 5.5 hours of one processor from nothing'
 	@echo 'make dist                packs the proved program for people without the toolchain: build/$(PACKED).tar.gz and .deb'
 	@echo 'make install [PREFIX=..] installs the program, the manual page and the extension for Inkscape'
 	@echo 'make help                this list'
