@@ -18,6 +18,7 @@ pub mod CandidateExamples
 pub mod BodyExamples
 pub mod WordExamples
 pub mod DefinitionExamples
+pub mod OwnListExamples
 pub mod LawExamples
 pub mod KeptQuestions
 pub mod LastingSystems
