@@ -1,6 +1,6 @@
 -- Turns and single steps.
-use Rattle.std.proofs.Common.{◌≡◌, ℕ, zero, suc, ◌+◌, ◌-◌, ◌*◌, ◌<◌, ◌≤◌, ◌/◌, ◌%◌, List, Option, length, ap, sym, ◌∙◌, subst, arith}
-use Rattle.std.proofs.Math.Nat.{div-add-mod}
+use Rattle.std.proofs.Common.{◌≡◌, ℕ, zero, suc, ◌+◌, ◌-◌, ◌*◌, ◌<◌, ◌≤◌, ◌/◌, ◌%◌, ◌^◌, List, Option, length, ap, sym, ◌∙◌, subst, arith}
+use Rattle.std.proofs.Math.Nat.{div-add-mod, mod-lt}
 use Rattle.lsys_syntax.specs.Strings.{ModuleName}
 use Rattle.lsys_spec.specs.Systems.{System}
 use Rattle.lsys_matrix.specs.Capped.{capped}
@@ -10,7 +10,7 @@ use Rattle.lsys_matrix.proofs.Powers.{StandsFor, steps_stand, run_whole}
 use Rattle.lsys_matrix.proofs.Squaring.{times_row, times_matrix}
 use Rattle.lsys_matrix.specs.Counts.{step_matrix, first_counts, counts_after}
 use Rattle.lsys_matrix.proofs.Told.{steps_again}
-use Rattle.lsys_growth.specs.Steps.{turn_matrix, AfterTurns, AfterSteps}
+use Rattle.lsys_growth.specs.Steps.{turn_matrix, AfterTurns, AfterSteps, FewProductsForTurns, FewProductsForLevel}
 
 -- one more step of a turn
 pub next_product : (k : ℕ) (a : ℕ → ℕ → ℕ → ℕ) (l : ℕ) (turn step m : Square) → 1 ≤ l → IsMatrix k (steps_product k a (l - 1)) turn → IsMatrix k (a l) step → IsProduct turn step m → IsMatrix k (steps_product k a (l + 1 - 1)) m
@@ -51,3 +51,13 @@ level_row s ns level first row r some f g h =
           ∙ ap capped (sym (run_whole k (step_matrix s ns) n (turn_matrix s ns) (steps_again s ns) turn q m (first_counts s ns) i u)
           ∙ ap (λ (x : ℕ). row_after k (step_matrix s ns) 0 x (first_counts s ns) i) whole);
     }
+
+-- the products of whole turns, and one more for each step that is left
+pub few_in_all : (s : System) (level before between after : ℕ) → 0 < length s.schedule
+    → FewProductsForTurns s (level / length s.schedule) before between
+    → after ≤ between + level % length s.schedule
+    → FewProductsForLevel s level before after
+few_in_all s level before between after some f l k h =
+    let e = f k h in
+    let m : level % length s.schedule < length s.schedule = mod-lt level some in
+    omega (arith, e, l, m)

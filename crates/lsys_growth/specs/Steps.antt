@@ -50,17 +50,13 @@ abbrev pub AfterStepsOf : System → List (List ℕ) → ℕ → Vec (Option ℕ
 AfterStepsOf s letters steps first r =
     AfterSteps s (map module_name letters) steps first.items r.items
 
--- how many products are made at most: by the schedule, and by how often the number of turns halves
+-- how many products of rows and of matrices are made at most: by the schedule, and by how often the number of turns halves
 abbrev pub FewProductsForTurns : System → ℕ → ℕ → ℕ → Type 0
 FewProductsForTurns s turns before after =
-    (k : ℕ) → turns < 2 ^ k → after ≤ before + (length s.schedule + k)
+    (k : ℕ) → turns < 2 ^ k → after ≤ before + (2 * k + length s.schedule)
 
 -- for the row of a level
 abbrev pub FewProductsForLevel : System → ℕ → ℕ → ℕ → Type 0
-FewProductsForLevel s t before after = FewProductsForTurns s (t / length s.schedule) before after
-
--- for two rows
-abbrev pub FewProductsForGrowth : System → ℕ → ℕ → ℕ → Type 0
-FewProductsForGrowth s t before after =
+FewProductsForLevel s t before after =
     (k : ℕ) → t / length s.schedule < 2 ^ k
     → after ≤ before + (2 * k + 2 * length s.schedule)

@@ -7,7 +7,7 @@ ghost use Rattle.lsys_matrix.specs.Growth.{growth_at};
 ghost use Rattle.lsys_matrix.specs.Counts.{told_length};
 ghost use Rattle.lsys_growth.specs.Views.{IsGrowthAnswer};
 ghost use Rattle.lsys_growth.specs.Census.{AddsCount, IsCensus};
-ghost use Rattle.lsys_growth.specs.Steps.{FewProductsForGrowth};
+ghost use Rattle.lsys_growth.specs.Steps.{FewProductsForLevel};
 
 use crate::answer::{Count, Growth};
 use crate::class::is_in_class;
@@ -21,7 +21,8 @@ use std::alloc::{AllocError, Global};
 use std::sync::ledger::Ledger;
 
 /// The letters of a level, counted, however deep it is: the levels go on past the depth, and the limit of modules plays no
-/// part. It takes as many products of matrices as the level's number has bits, and as the schedule has words, at most.
+/// part. It takes at most two products, of rows or of matrices, for each bit of the level's number, and two for each word of the
+/// schedule.
 ///
 /// # Errors
 ///
@@ -34,7 +35,7 @@ pub fn growth<P: Ledger>(
     products: &mut Steps<P>,
 ) -> Result<Growth, GrowthRefusal>
     ensures answer { IsGrowthAnswer result (growth_at system.now level) }
-    ensures count { FewProductsForGrowth system.now level products.old products.new }
+    ensures count { FewProductsForLevel system.now level products.old products.new }
 {
     if !is_in_class(system) {
         return Err(GrowthRefusal::Class);

@@ -26,7 +26,14 @@ pub(crate) fn level_row<P: Ledger>(
     let turn_length = system.schedule().len() as u64;
     let first = axiom_row(alloc, system, letters)?;
     let row = after_turns(alloc, system, letters, first, level / turn_length, products)?;
-    after_steps(alloc, system, letters, row, (level % turn_length) as u32)
+    after_steps(
+        alloc,
+        system,
+        letters,
+        row,
+        (level % turn_length) as u32,
+        products,
+    )
 }
 
 fn axiom_row(
@@ -80,20 +87,22 @@ fn turn<P: Ledger>(
 }
 
 // The row after so many steps from level 0.
-fn after_steps(
+fn after_steps<P: Ledger>(
     alloc: Global,
     system: &System,
     letters: &[Name],
     first: Vec<Option<u128>>,
     steps: u32,
+    products: &mut Steps<P>,
 ) -> Result<Vec<Option<u128>>, AllocError>
     requires { length first.items ≡ width (map module_name letters.now) }
-    ensures { IfOk result (AfterStepsOf system.now letters.now steps first) }
+    ensures row { IfOk result (AfterStepsOf system.now letters.now steps first) }
+    ensures count { products.new ≤ products.old + steps }
 {
     let mut row = first;
     for level in 0..steps {
         let step = step(alloc, system, letters, level)?;
-        row = row_times(alloc, &row, &step)?;
+        row = row_times(alloc, &row, &step, products)?;
     }
     Ok(row)
 }

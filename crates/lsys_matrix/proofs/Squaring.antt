@@ -79,17 +79,13 @@ reached k times v b row power h = record { len = h.row_is.len; places = λ j l. 
 pub starts : (k times : ℕ) (v : ℕ → ℕ) (b : ℕ → ℕ → ℕ) (row : List (Option ℕ)) (power : Square) → IsRow k v row → IsMatrix k b power → Reached k times times v b row power
 starts k times v b row power h g = record { v' = v; b' = b; row_is = h; power_is = g; same = λ j l. refl }
 
--- one product more, and half the rest
-pub fewer : (rest p q bound : ℕ) → 0 < rest / 2 → q ≡ p + 1 → (j : ℕ) × (rest < 2 ^ j) × (p + j ≤ bound) → (j : ℕ) × (rest / 2 < 2 ^ j) × (q + j ≤ bound)
+-- at most two products more, and half the rest
+pub fewer : (rest p q bound : ℕ) → 0 < rest → q ≤ p + 2 → (j : ℕ) × (rest < 2 ^ j) × (p + 2 * j ≤ bound) → (j : ℕ) × (rest / 2 < 2 ^ j) × (q + 2 * j ≤ bound)
 fewer rest p q bound h e f = by f.0 f.1 f.2
   where
-    by : (j : ℕ) → rest < 2 ^ j → p + j ≤ bound → (j : ℕ) × (rest / 2 < 2 ^ j) × (q + j ≤ bound)
+    by : (j : ℕ) → rest < 2 ^ j → p + 2 * j ≤ bound → (j : ℕ) × (rest / 2 < 2 ^ j) × (q + 2 * j ≤ bound)
     by zero l m = absurd (let o : 2 ^ 0 ≡ 1 = refl in omega arith)
     by (suc j) l m = (j, (let o : 2 ^ suc j ≡ 2 ^ j * 2 = simp unary_clauses in omega arith), omega arith)
-
--- half the rest, and no product
-pub no_more : (rest p bound : ℕ) → (j : ℕ) × (rest < 2 ^ j) × (p + j ≤ bound) → (j : ℕ) × (rest / 2 < 2 ^ j) × (p + j ≤ bound)
-no_more rest p bound f = let l = f.1 in (f.0, omega arith, f.2)
 
 -- the row after the odd one of the rest was taken, where half of it is left of the square
 pub record Halved (first : List (Option ℕ)) (matrix : Square) (times rest : ℕ) (row : List (Option ℕ)) (power : Square) : Type 0 where

@@ -1,9 +1,9 @@
 -- The growth of systems: examples that the checker computes.
-use Rattle.std.specs.Prelude.{◌≡◌, ℕ, Result, Ok, Err, List, codes, refl}
+use Rattle.std.specs.Prelude.{◌≡◌, ℕ, Result, Ok, Err, List, [], ◌∷◌, ◌-◌, ◌^◌, codes, map, refl}
 use Rattle.std.specs.Fmt.{digits}
 use Rattle.lsys_spec.specs.Replies.{reply}
 use Rattle.lsys_spec.specs.Output.{out, none, last_system}
-use Rattle.lsys_matrix.specs.Growth.{Census, GrowthFault, growth_at, growth_text, growth_fault_text}
+use Rattle.lsys_matrix.specs.Growth.{Census, GrowthFault, outside_class, over_letters, over_numbers, census_within, growth_at, growth_text, growth_fault_text}
 
 abbrev told : Result Census GrowthFault → List ℕ
 told (Ok c) = growth_text c
@@ -30,3 +30,13 @@ brackets = refl
 -- a formal, a weight or a cut
 pub outside : growth_after (codes "axiom A%") 0 ≡ codes "growth"
 outside = refl
+
+abbrev long : ℕ → Census
+long n = record { symbols = n; counts = [] }
+
+-- the greatest length that is told
+pub lengths : map census_within (long (2 ^ 128 - 1) ∷ long (2 ^ 128) ∷ []) ≡ Ok (long (2 ^ 128 - 1)) ∷ Err over_numbers ∷ []
+lengths = refl
+
+pub fault_texts : map growth_fault_text (outside_class ∷ over_letters ∷ over_numbers ∷ []) ≡ codes "growth" ∷ codes "letters" ∷ codes "overflow" ∷ []
+fault_texts = refl

@@ -12,6 +12,6 @@ mod steps;
 pub use capped::{law_of_stopping, plus, times};
 pub use growth::{law_of_depth, law_of_growth, law_of_lengths, law_of_letters};
 pub use laws::law_of_turns;
-pub use matrix::{Matrix, multiply, row_times};
-pub use power::power_times;
+pub use matrix::{Matrix, multiply};
+pub use power::{power_times, row_times};
 pub use steps::Steps;

@@ -3,7 +3,7 @@
 ghost use Rattle.std.specs.Prelude.{◌≡◌, ℕ, ◌+◌, ◌*◌, ◌<◌, length, IfOk, OnOk};
 ghost use Rattle.lsys_matrix.specs.Capped.{capped, value_of};
 ghost use Rattle.lsys_matrix.specs.Sums.{row_by};
-ghost use Rattle.lsys_matrix.specs.Matrices.{Square, place, entry, AddsRow, IsRowTimes, IsProduct};
+ghost use Rattle.lsys_matrix.specs.Matrices.{Square, place, entry, AddsRow, IsProduct};
 
 use crate::capped::{plus, times};
 use crate::steps::Steps;
@@ -58,7 +58,7 @@ fn cell(row: &[Option<u128>], m: &Matrix, column: usize) -> Option<u128>
 }
 
 // Puts the row times the matrix behind some entries.
-fn push_row(
+pub(crate) fn push_row(
     entries: &mut Vec<Option<u128>>,
     row: &[Option<u128>],
     m: &Matrix,
@@ -70,24 +70,6 @@ fn push_row(
         entries.push(cell(row, m, column))?;
     }
     Ok(())
-}
-
-/// A row times a matrix, each place the lesser of the true sum and 2^128. The counter of products doesn't count it.
-///
-/// # Errors
-///
-/// Want of memory.
-pub fn row_times(
-    alloc: Global,
-    row: &[Option<u128>],
-    m: &Matrix,
-) -> Result<Vec<Option<u128>>, AllocError>
-    requires { length row.now ≡ m.now.size }
-    ensures { IfOk result (λ r. IsRowTimes row.now m.now r.items) }
-{
-    let mut sums = Vec::new(alloc);
-    push_row(&mut sums, row, m)?;
-    Ok(sums)
 }
 
 /// The product of two matrices of one size, each entry the lesser of the true sum and 2^128. The counter rises by one.

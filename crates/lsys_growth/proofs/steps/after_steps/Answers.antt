@@ -8,18 +8,20 @@ use Rattle.lsys_growth.proofs.Stepping.{next_run}
 use Rattle.lsys_growth.proofs.steps.after_steps.Goals as goal
 
 pub loop-level-preserved : goal.loop-level-preserved
-loop-level-preserved c =
+loop-level-preserved g c =
     let s = c.args.system.now in
     let ns = map module_name c.args.letters.now in
     let i = c.loop-level.invariant in
-    let t : IsRowTimes c.loop-level.row.items c.in_ok-step.step c.in_ok-row.row.items = subst (λ (l : List (Option ℕ)). IsRowTimes l c.in_ok-step.step c.in_ok-row.row.items) c.deref.ensures.value c.in_ok-row.ensures in
+    let t : IsRowTimes c.loop-level.row.items c.in_ok-step.step c.in_ok-row.row.items = subst (λ (l : List (Option ℕ)). IsRowTimes l c.in_ok-step.step c.in_ok-row.row.items) c.deref.ensures.value c.in_ok-row.ensures.product in
+    let n = c.in_ok-row.ensures.count in
     record {
       size = t.len ∙ c.in_ok-step.ensures.size;
       told = λ v f. next_run (width ns) (step_matrix s ns) c.loop-level.level v c.loop-level.row.items c.in_ok-row.row.items c.in_ok-step.step (i.told v f) c.in_ok-step.ensures t;
+      count = (let k = i.count in omega (arith, k, n));
     }
 
-pub returns : goal.returns
-returns c =
+pub returns-clause-row : goal.returns-clause-row
+returns-clause-row g c =
     let s = c.args.system.now in
     let ns = map module_name c.args.letters.now in
     let g = c.loop-level-test.false in
