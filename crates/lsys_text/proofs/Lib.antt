@@ -5,3 +5,4 @@ pub mod Reading
 pub mod Shapes
 pub mod Taken
 pub mod LineTokens
+pub mod Pushed

@@ -1,6 +1,6 @@
 -- One step along a line: over blanks, and over a token.
 use Rattle.std.proofs.Common.{◌≡◌, ℕ, zero, suc, ◌+◌, ◌<◌, Bool, true, false, List, [], ◌∷◌, ◌++◌, length, drop, refl, ap, ◌∙◌, sym, arith, Some, None, Ok, Err, add-zero, length-drop, append_assoc, append-nil}
-use Rattle.std.specs.Prelude.{Result}
+use Rattle.std.specs.Prelude.{Result, IsOk}
 use Rattle.std.specs.List.{prefix_len}
 use Rattle.std.proofs.lemmas.List.{drop-drop, drop_all}
 use Rattle.lsys_syntax.specs.Tokens.{Kind, Token, Mode, is_blank, token_at, next_mode, before_rest, tokens_from}
@@ -70,32 +70,50 @@ no_blank_there line place n e =
     ap (begins_with is_blank) (sym (drop-drop n place line) ∙ ap (λ k. drop k (drop place line)) e) ∙ no-blank-behind (drop place line)
 
 -- only blanks are left
-pub step-end : (m : Mode) (line : List ℕ) (place n : ℕ) (ts : List Token) → n ≡ prefix_len is_blank (drop place line) → place + n ≡ length line
-    → after ts (tokens_from m zero place (drop place line)) ≡ Ok ts
-step-end m line place n ts e l =
+pub step-end : (m : Mode) (line : List ℕ) (place n : ℕ) → n ≡ prefix_len is_blank (drop place line) → place + n ≡ length line
+    → tokens_from m zero place (drop place line) ≡ Ok []
+step-end m line place n e l =
     let none : drop (place + n) line ≡ [] = drop_all (place + n) line (omega arith) in
-    ap (after ts) (behind_blanks m line place n e ∙ ap (λ xs. tokens_from m zero (place + n) xs) none) ∙ ap (λ us. Ok us) (append-nil ts)
+    behind_blanks m line place n e ∙ ap (λ xs. tokens_from m zero (place + n) xs) none
 
 -- no token begins behind the blanks
-pub step-none : (m : Mode) (line : List ℕ) (place n : ℕ) (ts : List Token) → n ≡ prefix_len is_blank (drop place line) → place + n < length line
-    → first_token m (drop (place + n) line) ≡ None → after ts (tokens_from m zero place (drop place line)) ≡ Err (place + n + 1)
-step-none m line place n ts e l f =
+pub step-none : (m : Mode) (line : List ℕ) (place n : ℕ) → n ≡ prefix_len is_blank (drop place line) → place + n < length line
+    → first_token m (drop (place + n) line) ≡ None → tokens_from m zero place (drop place line) ≡ Err (place + n + 1)
+step-none m line place n e l f =
     let some : 0 < length (drop (place + n) line) = omega (arith, length-drop (place + n) line) in
-    ap (after ts) (behind_blanks m line place n e ∙ read-none m (place + n) (drop (place + n) line) some (no_blank_there line place n e) f)
+    behind_blanks m line place n e ∙ read-none m (place + n) (drop (place + n) line) some (no_blank_there line place n e) f
 
 -- a token stands behind the blanks
-pub step-token : (m : Mode) (line : List ℕ) (place n : ℕ) (ts : List Token) (k : Kind) (more : ℕ) → n ≡ prefix_len is_blank (drop place line)
+pub step-token : (m : Mode) (line : List ℕ) (place n : ℕ) (k : Kind) (more : ℕ) → n ≡ prefix_len is_blank (drop place line)
     → first_token m (drop (place + n) line) ≡ Some (k, more)
-    → after ts (tokens_from m zero place (drop place line))
-    ≡ after (ts ++ (record { kind = k; start = place + n; stop = place + n + 1 + more } ∷ [])) (tokens_from (next_mode m k) zero (place + n + 1 + more) (drop (place + n + 1 + more) line))
-step-token m line place n ts k more e f =
+    → tokens_from m zero place (drop place line)
+    ≡ before_rest (record { kind = k; start = place + n; stop = place + n + 1 + more }) (tokens_from (next_mode m k) zero (place + n + 1 + more) (drop (place + n + 1 + more) line))
+step-token m line place n k more e f =
     let t : Token = record { kind = k; start = place + n; stop = place + n + 1 + more } in
     let on : place + n + suc more ≡ place + n + 1 + more = omega arith in
     let rest : drop (suc more) (drop (place + n) line) ≡ drop (place + n + 1 + more) line = drop-drop (suc more) (place + n) line ∙ ap (λ i. drop i line) on in
-    ap (after ts) (behind_blanks m line place n e ∙ read-token m (place + n) (drop (place + n) line) k more (no_blank_there line place n e) f
-    ∙ ap (λ xs. before_rest t (tokens_from (next_mode m k) zero (place + n + 1 + more) xs)) rest)
-    ∙ after-token ts t (tokens_from (next_mode m k) zero (place + n + 1 + more) (drop (place + n + 1 + more) line))
+    behind_blanks m line place n e ∙ read-token m (place + n) (drop (place + n) line) k more (no_blank_there line place n e) f
+    ∙ ap (λ xs. before_rest t (tokens_from (next_mode m k) zero (place + n + 1 + more) xs)) rest
 
-pub same-reading : (ts us : List Token) (m m' : Mode) (p q : ℕ) (line : List ℕ) → ts ≡ us → m ≡ m' → p ≡ q
-    → after ts (tokens_from m zero p (drop p line)) ≡ after us (tokens_from m' zero q (drop q line))
-same-reading ts us m m' p q line e f g = rw (e, f, g) refl
+-- a token is read, in the same mode and at the same place
+pub same-rest : (t : Token) (m m' : Mode) (p q : ℕ) (line : List ℕ) → m ≡ m' → p ≡ q
+    → before_rest t (tokens_from m zero p (drop p line)) ≡ before_rest t (tokens_from m' zero q (drop q line))
+same-rest t m m' p q line f g = rw (f, g) refl
+
+-- the rest of a line is read: with the tokens before it, it has a refused byte exactly where it has one alone
+pub after-err : (ts : List Token) (r : Result (List Token) ℕ) (column : ℕ) → r ≡ Err column → after ts r ≡ Err column
+after-err ts r column e = rw e refl
+
+pub after-nothing : (ts : List Token) (r : Result (List Token) ℕ) → r ≡ Ok [] → after ts r ≡ Ok ts
+after-nothing ts r e = rw e (ap (λ us. Ok us) (append-nil ts))
+
+pub after-ok : (ts : List Token) (r : Result (List Token) ℕ) → IsOk r → IsOk (after ts r)
+after-ok ts (Ok us) h = h
+after-ok ts (Err column) h = cc
+
+pub before-err : (t : Token) (r : Result (List Token) ℕ) (column : ℕ) → r ≡ Err column → before_rest t r ≡ Err column
+before-err t r column e = rw e refl
+
+pub before-ok : (t : Token) (r : Result (List Token) ℕ) → IsOk r → IsOk (before_rest t r)
+before-ok t (Ok us) h = h
+before-ok t (Err column) h = cc

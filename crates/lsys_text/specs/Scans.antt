@@ -1,5 +1,5 @@
 -- What the functions that look for one token answer.
-use Rattle.std.specs.Prelude.{◌≡◌, ◌<◌, ◌≤◌, ℕ, zero, ◌+◌, ◌-◌, ◌++◌, length, drop, map, Result, Ok, Err, Bool, false, List, [], ◌∷◌, Option, None, Some, IfSome}
+use Rattle.std.specs.Prelude.{◌≡◌, ◌<◌, ◌≤◌, ℕ, zero, ◌+◌, ◌-◌, ◌++◌, length, drop, map, Result, Ok, Err, Bool, false, List, [], ◌∷◌, Option, None, Some, IfSome, IsOk}
 use Rattle.lsys_syntax.specs.Tokens as syntax
 use Rattle.lsys_text.specs.declared.scan.Mode.{Mode}
 use Rattle.lsys_text.specs.declared.scan.Mode.TheVariants.{First, Words, UntilColon, Modules}
@@ -51,16 +51,47 @@ abbrev pub after : List syntax.Token → Result (List syntax.Token) ℕ → Resu
 after ts (Ok us) = Ok (ts ++ us)
 after ts (Err column) = Err column
 
+-- the line goes on in the mode behind a token of this kind
+abbrev pub IsModeBehind : Mode → TokenKind → Cursor → Type 0
+IsModeBehind mode kind next = mode_of next.mode ≡ syntax.next_mode (mode_of mode) (kind_of kind)
+
+-- the tokens of a line from a cursor on
+abbrev pub rest_from : List ℕ → Cursor → Result (List syntax.Token) ℕ
+rest_from line c = syntax.tokens_from (mode_of c.mode) zero c.place (drop c.place line)
+
 -- the tokens found so far, and those of the rest of the line
 abbrev pub all_tokens : List ℕ → List Token → Cursor → Result (List syntax.Token) ℕ
-all_tokens line found c = after (map token_of found) (syntax.tokens_from (mode_of c.mode) zero c.place (drop c.place line))
+all_tokens line found c = after (map token_of found) (rest_from line c)
 
--- One step from a cursor on: nothing is left, or one more token is found, or no token begins at a byte.
+-- One step from a cursor on: nothing is left, or one more token is found, or no token begins at a byte; memory is
+-- wanted only where no byte of the rest is refused.
 abbrev pub IsStep : List ℕ → List Token → Cursor → List Token → Result (Option Cursor) TextRefusal → Type 0
 IsStep line old c new (Ok None) = all_tokens line old c ≡ Ok (map token_of new)
 IsStep line old c new (Ok (Some next)) = all_tokens line old c ≡ all_tokens line new next
 IsStep line old c new (Err (Byte column)) = all_tokens line old c ≡ Err column
-IsStep line old c new (Err Memory) = Unit {0}
+IsStep line old c new (Err Memory) = IsOk (all_tokens line old c)
+
+-- why a line is refused whose tokens find no room: its first byte that is in none, or none is and memory is wanted
+abbrev pub IsRefusalFrom : List ℕ → Cursor → TextRefusal → Type 0
+IsRefusalFrom line c (Byte column) = rest_from line c ≡ Err column
+IsRefusalFrom line c Memory = IsOk (rest_from line c)
+
+-- behind a token that begins at a place, in the mode of what follows it
+abbrev pub IsCursorBehind : ℕ → Mode → Lexeme → Cursor → Type 0
+IsCursorBehind start mode x next = (next.place ≡ start + 1 + x.more) × IsModeBehind mode x.kind next
+
+-- a token that begins at a place is added, and the line goes on behind it; or there is no room, and the rest is told of
+abbrev pub IsPushed : List ℕ → List Token → ℕ → Mode → Lexeme → List Token → Result (Option Cursor) TextRefusal → Type 0
+IsPushed line old start mode x new (Ok None) = ⊥
+IsPushed line old start mode x new (Ok (Some next)) = (new ≡ old ++ as_token x start ∷ []) × IsCursorBehind start mode x next
+IsPushed line old start mode x new (Err refusal) = (new ≡ old) × ((next : Cursor) × IsCursorBehind start mode x next × IsRefusalFrom line next refusal)
+
+-- the next token is passed: what is refused behind it is refused before it too
+abbrev pub IsPassed : List ℕ → Cursor → Result (Option Cursor) TextRefusal → Type 0
+IsPassed line c (Ok None) = rest_from line c ≡ Ok []
+IsPassed line c (Ok (Some next)) = (t : syntax.Token) × (rest_from line c ≡ syntax.before_rest t (rest_from line next))
+IsPassed line c (Err (Byte column)) = rest_from line c ≡ Err column
+IsPassed line c (Err Memory) = ⊥
 
 -- the longest number at the front of a text that begins with a digit
 abbrev pub front_number : List ℕ → syntax.Kind × ℕ
@@ -77,7 +108,3 @@ front_word bytes =
 -- where the line goes on, if it does, is behind the cursor and within the line
 abbrev pub IsFurther : List ℕ → Cursor → Option Cursor → Type 0
 IsFurther line old next = IfSome next (λ c. (old.place < c.place) × (c.place ≤ length line))
-
--- the line goes on in the mode behind a token of this kind
-abbrev pub IsModeBehind : Mode → TokenKind → Cursor → Type 0
-IsModeBehind mode kind next = mode_of next.mode ≡ syntax.next_mode (mode_of mode) (kind_of kind)

@@ -1,5 +1,5 @@
 -- The tokens that the code finds, as those of the definitions.
-use Rattle.std.specs.Prelude.{◌≡◌, ◌<◌, ◌≤◌, ℕ, Bool, List, [], ◌∷◌, ◌==◌, ◌||◌, Result, Ok, Err, Vec, map, unwrap_or, is_some, IsTrue, if◌then◌else◌}
+use Rattle.std.specs.Prelude.{◌≡◌, ◌<◌, ◌≤◌, ℕ, Bool, List, [], ◌∷◌, ◌==◌, ◌||◌, Result, Ok, Err, Vec, map, unwrap_or, is_some, IsTrue, IsOk, if◌then◌else◌}
 use Rattle.std.specs.declared.alloc.Global.{Global}
 use Rattle.lsys_syntax.specs.Tokens as syntax
 use Rattle.lsys_text.specs.declared.token_kind.Token.{Token}
@@ -60,8 +60,8 @@ HasMarkByte t = IsMarkByte t.kind
 abbrev pub LiesInLine : ℕ → Token → Type 0
 LiesInLine length t = (t.start < t.end) × (t.end ≤ length)
 
--- the line's tokens, or the column of its first byte that is in none; want of memory says nothing
+-- the line's tokens, or the column of its first byte that is in none; memory is wanted only where no byte is refused
 abbrev pub AreLineTokens : List ℕ → Result (Vec Token Global) TextRefusal → Type 0
 AreLineTokens line (Ok found) = syntax.tokens line ≡ Ok (map token_of found.items)
 AreLineTokens line (Err (Byte column)) = syntax.tokens line ≡ Err column
-AreLineTokens line (Err Memory) = Unit {0}
+AreLineTokens line (Err Memory) = IsOk (syntax.tokens line)

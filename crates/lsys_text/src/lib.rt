@@ -26,7 +26,8 @@ pub use token_kind::{Token, TokenKind};
 ///
 /// # Errors
 ///
-/// `Byte` has the column of the first byte that is in no token, and `Memory` is want of memory.
+/// `Byte` has the column of the first byte that is in no token. `Memory` is want of memory, and is told
+/// only of a line without such a byte.
 pub fn tokens(alloc: Global, line: &[u8]) -> Result<Vec<Token>, TextRefusal>
     requires { length line.now ≤ most_line_bytes }
     ensures tokens { AreLineTokens line.now result }

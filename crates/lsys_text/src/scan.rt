@@ -6,12 +6,12 @@ ghost use Rattle.lsys_syntax.specs.Limits.{most_line_bytes};
 ghost use Rattle.lsys_syntax.specs.Tokens.{is_blank, is_digit, is_letter, is_alphanumeric, is_word_byte, after_word, next_mode, name_tail, name_with};
 ghost use Rattle.lsys_syntax.specs.Pieces.{Every};
 ghost use Rattle.lsys_text.specs.Tokens.{kind_of, IsMarkByte, HasMarkByte, is_mark, LiesInLine};
-ghost use Rattle.lsys_text.specs.Scans.{mode_of, lexeme_of, begins_with, first_token, first_name, first_mark, as_token, IsStep, front_number, front_word, IsFurther, IsModeBehind};
+ghost use Rattle.lsys_text.specs.declared.refusals.TextRefusal.TheVariants.{Byte};
+ghost use Rattle.lsys_text.specs.Scans.{mode_of, lexeme_of, begins_with, first_token, first_name, first_mark, as_token, IsStep, IsPushed, IsPassed, IsRefusalFrom, front_number, front_word, IsFurther, IsModeBehind};
 
 use crate::names::{Name, Word};
 use crate::refusals::TextRefusal;
 use crate::token_kind::{Token, TokenKind};
-use std::alloc::AllocError;
 
 /// How the next letters are read.
 #[derive(Clone, Copy)]
@@ -53,6 +53,8 @@ impl Cursor {
 }
 
 /// Adds the next token of a line, and answers where the line goes on: nowhere if only blanks are left.
+///
+/// Where there is no room for the token, the rest of the line is gone along for a byte that is in none.
 pub fn push_token(
     found: &mut Vec<Token>,
     line: &[u8],
@@ -74,35 +76,83 @@ pub fn push_token(
         return Ok(None);
     }
     match token_at(cursor.mode, &line[start..]) {
-        Some(lexeme) => Ok(Some(push_lexeme(found, start, cursor.mode, lexeme)?)),
-        None => Err(TextRefusal::Byte {
-            column: start as u32 + 1,
-        }),
+        Some(lexeme) => push_lexeme(found, line, start, cursor.mode, lexeme),
+        None => Err(refused_byte(start)),
     }
 }
 
 // Adds the token that begins at a place, and answers where the line goes on.
 fn push_lexeme(
     found: &mut Vec<Token>,
+    line: &[u8],
     start: usize,
     mode: Mode,
     lexeme: Lexeme,
-) -> Result<Cursor, AllocError>
-    requires { start + lexeme.more < most_line_bytes }
-    ensures added { OnOk result (found.new.items ≡ found.old.items ++ as_token lexeme start ∷ []) }
-    ensures place { IfOk result (λ next. next.place ≡ start + 1 + lexeme.more) }
-    ensures mode { IfOk result (IsModeBehind mode lexeme.kind) }
-    ensures refused { OnErr result (found.new.items ≡ found.old.items) }
+) -> Result<Option<Cursor>, TextRefusal>
+    requires line { length line.now ≤ most_line_bytes }
+    requires place { start + lexeme.more < length line.now }
+    ensures pushed { IsPushed line.now found.old.items start mode lexeme found.new.items result }
 {
     let place = start + 1 + lexeme.more;
-    let mode = mode_behind(mode, lexeme.kind);
+    let behind = Cursor {
+        place,
+        mode: mode_behind(mode, lexeme.kind),
+    };
     let token = Token {
         kind: lexeme.kind,
         start: start as u32,
         end: place as u32,
     };
-    found.push(token)?;
-    Ok(Cursor { place, mode })
+    match found.push(token) {
+        Ok(()) => Ok(Some(behind)),
+        Err(_) => Err(refusal_from(line, behind)),
+    }
+}
+
+// The refusal of the byte at a place.
+fn refused_byte(place: usize) -> TextRefusal
+    requires { place < most_line_bytes }
+    ensures { result ≡ Byte (place + 1) }
+{
+    TextRefusal::Byte {
+        column: place as u32 + 1,
+    }
+}
+
+// Why a line is refused whose tokens from here on find no room: its first byte that is in none, or want of memory.
+fn refusal_from(line: &[u8], cursor: Cursor) -> TextRefusal
+    requires line { length line.now ≤ most_line_bytes }
+    requires place { cursor.place ≤ length line.now }
+    ensures { IsRefusalFrom line.now cursor result }
+{
+    let mut cursor = cursor;
+    'rest: loop {
+        match pass_token(line, cursor) {
+            Ok(Some(behind)) => cursor = behind,
+            Ok(None) => return TextRefusal::Memory,
+            Err(refusal) => return refusal,
+        }
+    }
+}
+
+// Goes past the next token of a line, and answers where it goes on.
+fn pass_token(line: &[u8], cursor: Cursor) -> Result<Option<Cursor>, TextRefusal>
+    requires line { length line.now ≤ most_line_bytes }
+    requires place { cursor.place ≤ length line.now }
+    ensures passed { IsPassed line.now cursor result }
+    ensures within { IfOk result (IsFurther line.now cursor) }
+{
+    let start = cursor.place + blanks_len(&line[cursor.place..]);
+    if start == line.len() {
+        return Ok(None);
+    }
+    match token_at(cursor.mode, &line[start..]) {
+        Some(lexeme) => Ok(Some(Cursor {
+            place: start + 1 + lexeme.more,
+            mode: mode_behind(cursor.mode, lexeme.kind),
+        })),
+        None => Err(refused_byte(start)),
+    }
 }
 
 // How many blanks stand at the front of a text.
