@@ -8,7 +8,7 @@ use Rattle.lsys_spec.specs.Numbers.{code_of}
 use Rattle.lsys_module.specs.Views.{symbol_of}
 use Rattle.lsys_module.specs.declared.symbol.Symbol.{Symbol}
 use Rattle.lsys_reading.specs.Commands.{numbering_of}
-use Rattle.lsys_reading.specs.declared.parts.Numbering.TheVariants as code
+use Rattle.lsys_reading.specs.declared.parts.Lineage.TheVariants as code
 use Rattle.lsys_flat.specs.declared.origin.Origin.{Origin}
 use Rattle.lsys_flat.specs.declared.numbers.Numbers.{Numbers}
 
@@ -21,7 +21,7 @@ origin_at by_name parent n before code = record { parent = parent; code = code; 
 pub record HasNumbered (n : ℕ) (before : List ℕ) (a : Numbers) : Type 0 where
   pub children : a.children ≡ n
   pub length : length before ≡ n
-  pub counts : a.numbering ≡ code.ByName → (c : ℕ) → count_at (get nat_eq a.counts) c ≡ count_by (λ d. d == c) before
+  pub counts : a.numbering ≡ code.Names → (c : ℕ) → count_at (get nat_eq a.counts) c ≡ count_by (λ d. d == c) before
 
 -- fewer were numbered than there are numbers for a code
 abbrev pub HasNumbersLeft : Numbers → Type 0

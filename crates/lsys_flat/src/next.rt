@@ -9,7 +9,7 @@ use crate::level::Level;
 use crate::made::Made;
 use crate::numbers::Numbers;
 use lsys_module::Symbol;
-use lsys_reading::Numbering;
+use lsys_reading::Lineage;
 use std::alloc::{AllocError, Global};
 use std::marker::Model;
 
@@ -31,7 +31,7 @@ impl Model for NextLevel {
 
 impl NextLevel {
     /// No symbol was replaced yet. The level may have `room` symbols. Takes no memory.
-    pub fn new(alloc: Global, numbering: Numbering, room: usize) -> NextLevel
+    pub fn new(alloc: Global, numbering: Lineage, room: usize) -> NextLevel
         ensures { result ≡ nothing_made (numbering_of numbering) room }
     {
         NextLevel {

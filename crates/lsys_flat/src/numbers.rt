@@ -3,15 +3,15 @@ ghost use Rattle.std.specs.Prelude.{◌≡◌, [], IfOk, OnOk};
 ghost use Rattle.lsys_flat.specs.Counts.{CountsChild, HasNumbered, HasNumbersLeft, IsNextOrigin};
 
 use crate::Origin;
-use lsys_module::Symbol;
-use lsys_reading::Numbering;
+use lsys_module::{Symbol, name_code};
+use lsys_reading::Lineage;
 use std::alloc::{AllocError, Global};
 use std::collections::HashMap;
 
 /// What tells the children of a symbol, one after another, from each other.
 #[derive(Drop)]
 pub(crate) struct Numbers {
-    pub(crate) numbering: Numbering,
+    pub(crate) numbering: Lineage,
     // how many children there were
     pub(crate) children: u32,
     // by names, how many of each code
@@ -20,7 +20,7 @@ pub(crate) struct Numbers {
 
 impl Numbers {
     /// Takes no memory.
-    pub(crate) fn new(alloc: Global, numbering: Numbering) -> Numbers
+    pub(crate) fn new(alloc: Global, numbering: Lineage) -> Numbers
         ensures { result.numbering ≡ numbering }
     {
         Numbers {
@@ -49,13 +49,13 @@ impl Numbers {
         let place = self.children;
         self.children += 1;
         match self.numbering {
-            Numbering::ByPlace => Ok(Origin {
+            Lineage::Places => Ok(Origin {
                 parent,
                 code: 0,
                 count: place,
             }),
-            Numbering::ByName => {
-                let code = child.code();
+            Lineage::Names => {
+                let code = name_code(child);
                 let count = self.counts.get(&code).copied().unwrap_or(0);
                 self.counts.insert(code, count + 1)?;
                 Ok(Origin {

@@ -18,7 +18,7 @@ use crate::{Level, NextLevel};
 use lsys_level::{FlatSpot, LevelView, Sight};
 use lsys_match::{Answer, AnswerStore, AskRefusal, Asker, Steps};
 use lsys_module::{Module, Params, Symbol};
-use lsys_reading::Numbering;
+use lsys_reading::Lineage;
 use lsys_rewrite::DeriveRefusal;
 use std::alloc::{AllocError, Global};
 use std::marker::Model;
@@ -65,7 +65,7 @@ impl<L: Ledger> Model for Round<L> {
 
 impl<L: Ledger> Round<L> {
     /// No symbol was asked about yet. The next level may have `room` symbols. Takes no memory.
-    pub fn new(alloc: Global, numbering: Numbering, room: usize) -> Round<L>
+    pub fn new(alloc: Global, numbering: Lineage, room: usize) -> Round<L>
         ensures { result ≡ nothing_asked (numbering_of numbering) room }
     {
         Round {

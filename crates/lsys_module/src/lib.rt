@@ -25,7 +25,7 @@ pub use params::Params;
 pub use print::{print_string, put_name, put_symbol, put_symbols};
 pub use refusal::StringRefusal;
 pub use scan::scan_string;
-pub use symbol::{Module, Symbol};
+pub use symbol::{Module, Symbol, name_code};
 pub use symbol_list::SymbolList;
 
 /// A law of printed strings: a string whose brackets are balanced is printed so that its text, wherever it stands in a

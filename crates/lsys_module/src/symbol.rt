@@ -27,18 +27,16 @@ pub enum Symbol {
     Module(Module),
 }
 
-impl Symbol {
-    /// The code that symbols of one name have and no others: of a module the number of its name, of another symbol its
-    /// byte.
-    pub fn code(&self) -> u64
-        ensures { result ≡ code_of (symbol_of self.now) }
-    {
-        match self {
-            Symbol::Push => u64::from(b'['),
-            Symbol::Pop => u64::from(b']'),
-            Symbol::Cut => u64::from(b'%'),
-            Symbol::Module(module) => module.name.number(),
-        }
+/// The code that symbols of one name have and no others: of a module the number of its name, of another symbol its
+/// byte.
+pub fn name_code(symbol: &Symbol) -> u64
+    ensures { result ≡ code_of (symbol_of symbol.now) }
+{
+    match symbol {
+        Symbol::Push => u64::from(b'['),
+        Symbol::Pop => u64::from(b']'),
+        Symbol::Cut => u64::from(b'%'),
+        Symbol::Module(module) => module.name.number(),
     }
 }
 

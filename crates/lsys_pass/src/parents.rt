@@ -12,7 +12,7 @@ use crate::keep::target;
 use crate::pass::Pass;
 use lsys_forest::NodeId;
 use lsys_front::any_opens;
-use lsys_reading::Numbering;
+use lsys_reading::Lineage;
 use lsys_repair::{Parent, list_level, walk_parents};
 use std::alloc::{AllocError, Global};
 use std::sync::ledger::Ledger;
@@ -145,12 +145,12 @@ impl<L: Ledger> Pass<L> {
 }
 
 /// Whether lineages are numbered the same way.
-fn is_same_numbering(one: Numbering, two: Numbering) -> bool
+fn is_same_numbering(one: Lineage, two: Lineage) -> bool
     ensures { result ≡ true → one ≡ two }
 {
     matches!(
         (one, two),
-        (Numbering::ByPlace, Numbering::ByPlace) | (Numbering::ByName, Numbering::ByName)
+        (Lineage::Places, Lineage::Places) | (Lineage::Names, Lineage::Names)
     )
 }
 

@@ -9,8 +9,8 @@ use Rattle.lsys_reading.specs.declared.parts.LatticeName.{LatticeName}
 use Rattle.lsys_reading.specs.declared.parts.LatticeName.TheVariants as lattices
 use Rattle.lsys_reading.specs.declared.parts.ListKind.{ListKind}
 use Rattle.lsys_reading.specs.declared.parts.ListKind.TheVariants as lists
-use Rattle.lsys_reading.specs.declared.parts.Numbering.{Numbering}
-use Rattle.lsys_reading.specs.declared.parts.Numbering.TheVariants as numberings
+use Rattle.lsys_reading.specs.declared.parts.Lineage.{Lineage as Numbering}
+use Rattle.lsys_reading.specs.declared.parts.Lineage.TheVariants as numberings
 use Rattle.lsys_reading.specs.declared.parts.Parts.{Parts}
 use Rattle.lsys_reading.specs.declared.parts.Parts.TheVariants.{Axiom, Production, Drop, Ignore, Schedule, Seed, Depth, Lattice, Homomorphism, String, Segments, Svg, Show, Quit, Version, Own, Common, Lineage}
 use Rattle.lsys_reading.specs.RuleLines.{rule_at, IsRuleLine}
@@ -27,8 +27,8 @@ list_kind_of lists.Ignore = spec.to_ignore
 list_kind_of lists.Consider = spec.to_consider
 
 abbrev pub numbering_of : Numbering → spec.Numbering
-numbering_of numberings.ByPlace = spec.by_place
-numbering_of numberings.ByName = spec.by_name
+numbering_of numberings.Places = spec.by_place
+numbering_of numberings.Names = spec.by_name
 
 -- the string of an axiom
 abbrev pub string_in : Verdict → List (Symbol Signed)

@@ -6,7 +6,7 @@ use Rattle.lsys_syntax.specs.LineMachine.{Symbols, State, InAxiom, ProductionDue
 use Rattle.lsys_reading.specs.declared.word.CommandWord.{CommandWord}
 use Rattle.lsys_reading.specs.declared.word.CommandWord.TheVariants as words
 use Rattle.lsys_reading.specs.declared.parts.LatticeName.{LatticeName}
-use Rattle.lsys_reading.specs.declared.parts.Numbering.{Numbering}
+use Rattle.lsys_reading.specs.declared.parts.Lineage.{Lineage as Numbering}
 use Rattle.lsys_reading.specs.Commands.{lattice_of, numbering_of}
 
 abbrev pub word_state : CommandWord → State

@@ -23,7 +23,7 @@ mod words;
 pub use command::{Command, CommandKind};
 pub use images::{Image, ImageModule};
 pub use parse::parse_command;
-pub use parts::{LabeledRule, LatticeName, ListKind, Numbering, OwnList, Parts};
+pub use parts::{LabeledRule, LatticeName, Lineage, ListKind, OwnList, Parts};
 pub use patterns::{Pattern, PatternModule};
 pub use refusal::Refusal;
 pub use rule::RuleLine;

@@ -22,11 +22,11 @@ pub enum ListKind {
 
 /// How the symbols of a list are numbered.
 #[derive(Clone, Copy, PartialEq, Eq, Debug)]
-pub enum Numbering {
+pub enum Lineage {
     /// By their places.
-    ByPlace,
+    Places,
     /// By their names, and by how many of the same name stand before.
-    ByName,
+    Names,
 }
 
 /// A table's own list of names.
@@ -83,5 +83,5 @@ pub enum Parts {
     /// Takes a table's own list away.
     Common(Word),
     /// Sets how symbols are numbered.
-    Lineage(Numbering),
+    Lineage(Lineage),
 }

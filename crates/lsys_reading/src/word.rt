@@ -3,7 +3,7 @@ ghost use Rattle.std.specs.Prelude.{◌≡◌};
 ghost use Rattle.lsys_syntax.specs.LineMachine.{first_word, lattice_named, numbering_named};
 ghost use Rattle.lsys_reading.specs.Words.{word_state_in, lattice_state_in, numbering_state_in, meaning_in};
 
-use crate::parts::{LatticeName, Numbering};
+use crate::parts::{LatticeName, Lineage};
 use lsys_text::Word;
 
 /// The first word of a line, which tells the command.
@@ -61,9 +61,9 @@ const LATTICE_WORDS: [(&[u8], LatticeName); 3] = [
 ];
 
 // Each word that names a numbering.
-const NUMBERING_WORDS: [(&[u8], Numbering); 2] = [
-    (b"places", Numbering::ByPlace),
-    (b"names", Numbering::ByName),
+const NUMBERING_WORDS: [(&[u8], Lineage); 2] = [
+    (b"places", Lineage::Places),
+    (b"names", Lineage::Names),
 ];
 
 /// The command that a word begins, where it begins one.
@@ -81,7 +81,7 @@ pub(crate) fn lattice_name(word: Word) -> Option<LatticeName>
 }
 
 /// The numbering that a word names, where it names one.
-pub(crate) fn numbering_name(word: Word) -> Option<Numbering>
+pub(crate) fn numbering_name(word: Word) -> Option<Lineage>
     ensures { numbering_named word ≡ numbering_state_in result }
 {
     numbering_with(word.text().as_bytes())
@@ -99,7 +99,7 @@ fn lattice_with(text: &[u8]) -> Option<LatticeName>
     meaning_in(&LATTICE_WORDS, text)
 }
 
-fn numbering_with(text: &[u8]) -> Option<Numbering>
+fn numbering_with(text: &[u8]) -> Option<Lineage>
     ensures { numbering_named text.now ≡ numbering_state_in result }
 {
     meaning_in(&NUMBERING_WORDS, text)

@@ -9,7 +9,8 @@ use crate::line_tokens::LineTokens;
 use crate::refusal::PartRefusal;
 use lsys_text::{Name, TokenKind, Word};
 
-fn word_of(kind: TokenKind) -> Option<Word>
+// The word that a token is, where it is one.
+pub(crate) fn word_of(kind: TokenKind) -> Option<Word>
     ensures { result ≡ word_in (kind_of kind) }
 {
     match kind {

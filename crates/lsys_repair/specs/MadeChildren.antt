@@ -1,7 +1,7 @@
 -- The children of some parents are made those that are wanted of them.
 use Rattle.std.specs.Prelude.{◌≡◌, ◌+◌, ◌≤◌, ℕ, List, ◌++◌, Some, Result, OnOk}
 use Rattle.lsys_spec.specs.Rows.{mirrored}
-use Rattle.lsys_reading.specs.declared.parts.Numbering.{Numbering}
+use Rattle.lsys_reading.specs.declared.parts.Lineage.{Lineage as Numbering}
 use Rattle.lsys_reading.specs.Commands.{numbering_of}
 use Rattle.lsys_match.specs.Kept.{Kept}
 use Rattle.lsys_forest.specs.Nodes.{Node}

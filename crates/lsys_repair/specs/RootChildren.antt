@@ -2,7 +2,7 @@
 use Rattle.std.specs.Prelude.{◌≡◌, List, [], ◌∷◌, ◌++◌, ℕ, map}
 use Rattle.lsys_module.specs.declared.symbol.Symbol.{Symbol}
 use Rattle.lsys_module.specs.Views.{string_of}
-use Rattle.lsys_reading.specs.declared.parts.Numbering.{Numbering}
+use Rattle.lsys_reading.specs.declared.parts.Lineage.{Lineage as Numbering}
 use Rattle.lsys_reading.specs.Commands.{numbering_of}
 use Rattle.lsys_forest.specs.Groves.{Grove, now_of}
 use Rattle.lsys_forest.specs.Rows.{kids_in}

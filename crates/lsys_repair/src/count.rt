@@ -12,7 +12,7 @@ use crate::parent::{Parent, fill_for};
 use lsys_brood::{Brood, Need};
 use lsys_forest::Forest;
 use lsys_kept::KeptAnswer;
-use lsys_reading::Numbering;
+use lsys_reading::Lineage;
 use lsys_wanted::Wanted;
 use std::alloc::AllocError;
 use std::sync::ledger::Ledger;
@@ -33,7 +33,7 @@ pub struct Count {
 /// Want of memory.
 pub fn count_children<L: Ledger>(
     forest: &Forest<KeptAnswer<L>>,
-    numbering: Numbering,
+    numbering: Lineage,
     parents: &[Parent],
     wanted: &mut Wanted,
     brood: &mut Brood,
@@ -55,7 +55,7 @@ pub fn count_children<L: Ledger>(
 /// Counts these of one parent.
 fn count_one<L: Ledger>(
     forest: &Forest<KeptAnswer<L>>,
-    numbering: Numbering,
+    numbering: Lineage,
     parent: Parent,
     wanted: &mut Wanted,
     brood: &mut Brood,

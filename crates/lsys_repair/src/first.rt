@@ -13,7 +13,7 @@ use lsys_brood::{Brood, Changes};
 use lsys_forest::Forest;
 use lsys_kept::KeptAnswer;
 use lsys_module::Symbol;
-use lsys_reading::Numbering;
+use lsys_reading::Lineage;
 use lsys_wanted::Wanted;
 use std::alloc::AllocError;
 use std::sync::ledger::Ledger;
@@ -26,7 +26,7 @@ use std::sync::ledger::Ledger;
 /// Want of memory.
 pub fn count_first<L: Ledger>(
     forest: &Forest<KeptAnswer<L>>,
-    numbering: Numbering,
+    numbering: Lineage,
     seed: u64,
     symbols: &[Symbol],
     wanted: &mut Wanted,
@@ -54,7 +54,7 @@ pub fn count_first<L: Ledger>(
 /// Want of memory. Nothing changed then.
 pub fn make_first<L: Ledger>(
     forest: &mut Forest<KeptAnswer<L>>,
-    numbering: Numbering,
+    numbering: Lineage,
     seed: u64,
     symbols: &[Symbol],
     wanted: &mut Wanted,

@@ -11,7 +11,7 @@ use crate::parent::{Parent, fill_for};
 use lsys_brood::{Brood, Changes};
 use lsys_forest::Forest;
 use lsys_kept::KeptAnswer;
-use lsys_reading::Numbering;
+use lsys_reading::Lineage;
 use lsys_wanted::Wanted;
 use std::alloc::AllocError;
 use std::sync::ledger::Ledger;
@@ -24,7 +24,7 @@ use std::sync::ledger::Ledger;
 /// nodes came to live than were counted.
 pub fn make_children<L: Ledger>(
     forest: &mut Forest<KeptAnswer<L>>,
-    numbering: Numbering,
+    numbering: Lineage,
     parents: &[Parent],
     wanted: &mut Wanted,
     brood: &mut Brood,
@@ -55,7 +55,7 @@ pub fn make_children<L: Ledger>(
 /// Want of memory. The forest stays then.
 fn make_one<L: Ledger>(
     forest: &mut Forest<KeptAnswer<L>>,
-    numbering: Numbering,
+    numbering: Lineage,
     parent: Parent,
     wanted: &mut Wanted,
     brood: &mut Brood,

@@ -8,7 +8,7 @@ ghost use Rattle.lsys_repair.specs.WantedOf.{WantsOf, WantsWhole, WantsItself};
 use lsys_forest::{Forest, NodeId};
 use lsys_kept::KeptAnswer;
 use lsys_level::Sight;
-use lsys_reading::Numbering;
+use lsys_reading::Lineage;
 use lsys_wanted::{Wanted, symbol_seen};
 use std::alloc::AllocError;
 use std::sync::ledger::Ledger;
@@ -29,7 +29,7 @@ pub struct Parent {
 pub(crate) fn fill_for<L: Ledger>(
     wanted: &mut Wanted,
     forest: &Forest<KeptAnswer<L>>,
-    numbering: Numbering,
+    numbering: Lineage,
     parent: Parent,
 ) -> Result<(), AllocError>
     requires lives { IsLive forest.now parent.node }
@@ -46,7 +46,7 @@ pub(crate) fn fill_for<L: Ledger>(
 fn fill_whole<L: Ledger>(
     wanted: &mut Wanted,
     forest: &Forest<KeptAnswer<L>>,
-    numbering: Numbering,
+    numbering: Lineage,
     node: NodeId,
 ) -> Result<(), AllocError>
     requires lives { IsLive forest.now node }
@@ -70,7 +70,7 @@ fn fill_whole<L: Ledger>(
 fn fill_itself<L: Ledger>(
     wanted: &mut Wanted,
     forest: &Forest<KeptAnswer<L>>,
-    numbering: Numbering,
+    numbering: Lineage,
     node: NodeId,
 ) -> Result<(), AllocError>
     requires lives { IsLive forest.now node }

@@ -29,3 +29,8 @@ IsEditRefusal line told e = ⊥
 abbrev pub IsApplied : spec.System → CommandLine → Result spec.System Refusal → Type 0
 IsApplied s line (Ok next) = (edits.refusal s (command_of line.tokens) ≡ None) × (next ≡ edits.changed s (command_of line.tokens))
 IsApplied s line (Err e) = IsEditRefusal line (edits.refusal s (command_of line.tokens)) e
+
+-- nothing refuses the command, or the first refusal
+abbrev pub IsChecked : spec.System → CommandLine → Result (Unit {0}) Refusal → Type 0
+IsChecked s line (Ok u) = edits.refusal s (command_of line.tokens) ≡ None
+IsChecked s line (Err e) = IsEditRefusal line (edits.refusal s (command_of line.tokens)) e

@@ -6,7 +6,7 @@ use Rattle.lsys_spec.specs.Systems.{written}
 use Rattle.lsys_module.specs.Views.{module_name, string_of}
 use Rattle.lsys_module.specs.declared.symbol.Symbol.{Symbol}
 use Rattle.lsys_reading.specs.Commands.{numbering_of}
-use Rattle.lsys_reading.specs.declared.parts.Numbering.{Numbering}
+use Rattle.lsys_reading.specs.declared.parts.Lineage.{Lineage as Numbering}
 use Rattle.lsys_bodies.specs.declared.rule.HomRule.{HomRule}
 use Rattle.lsys_bodies.specs.declared.rule.Rule.{Rule}
 use Rattle.lsys_bodies.specs.Views.{homomorphism_of, as_production}

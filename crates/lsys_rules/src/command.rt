@@ -43,7 +43,7 @@ impl Model for Command {
 /// # Errors
 ///
 /// `Token` and `Deep` have the column of the first token with which no command goes on, or the one behind the line's end,
-/// and `Memory` is want of memory. No other refusal comes.
+/// and `Memory` is want of memory, told only of a line that begins with the word of a command. No other refusal comes.
 pub fn parse_command(alloc: Global, tokens: &[Token], length: u32) -> Result<Command, Refusal>
     requires short { length ≤ most_line_bytes }
     requires forms { AreTokens (kind_row tokens.now) }

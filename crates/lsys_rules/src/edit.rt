@@ -34,12 +34,12 @@ fn accepted(alloc: Global, system: &System, command: &Command) -> Result<System,
     ensures { IfOk result (λ next. next ≡ changed system.now (command_of command.now.tokens)) }
 {
     let parts = changed(alloc, system.parts(), command.tokens(), command.parts())?;
-    Ok(System::of(parts))
+    System::of(alloc, parts)
 }
 
 impl Command {
     // A fault by its column.
-    fn refusal(&self, fault: Fault) -> Refusal
+    pub(crate) fn refusal(&self, fault: Fault) -> Refusal
         ensures { IsEditRefusal self.now (Some (refusal_of_fault fault)) result }
     {
         let column = self.column(fault.place);

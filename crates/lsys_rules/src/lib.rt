@@ -2,6 +2,7 @@
 #![tactic(auto)]
 
 mod changes;
+mod checking;
 mod command;
 mod command_faults;
 mod edit;
@@ -23,11 +24,12 @@ mod shared_group;
 mod show_rules;
 mod system;
 
+pub use checking::check;
 pub use command::{Command, parse_command};
 pub use edit::apply;
 pub use hom_table::HomTable;
 pub use lsys_bodies::{Body, Filter, HomRule, Item, Pattern, Rule, SharedBody, Template};
-pub use lsys_reading::{CommandKind, LatticeName as LatticeKind, ListKind, Numbering};
+pub use lsys_reading::{CommandKind, LatticeName as LatticeKind, Lineage, ListKind};
 pub use own_list::OwnList;
 pub use own_table::OwnTable;
 pub use refusal::Refusal;

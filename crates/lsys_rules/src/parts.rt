@@ -6,7 +6,7 @@ use crate::hom_table::HomTable;
 use crate::own_table::OwnTable;
 use crate::rule_table::RuleTable;
 use lsys_module::SymbolList;
-use lsys_reading::{LatticeName, Numbering};
+use lsys_reading::{LatticeName, Lineage};
 use lsys_text::{Name, Word};
 use std::alloc::AllocError;
 
@@ -22,7 +22,7 @@ pub(crate) struct SystemParts {
     pub depth: u32,
     pub lattice: LatticeName,
     pub version: u32,
-    pub numbering: Numbering,
+    pub numbering: Lineage,
     pub own: OwnTable,
 }
 

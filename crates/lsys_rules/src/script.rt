@@ -16,7 +16,7 @@ use crate::system::System;
 use lsys_bodies::{HomRule, Rule};
 use lsys_io::{Buffered, Failed, Sink};
 use lsys_module::{Notation, Shape, SymbolList, print_string, put_symbols};
-use lsys_reading::{LatticeName, ListKind, Numbering};
+use lsys_reading::{LatticeName, Lineage, ListKind};
 use lsys_text::{Name, Word};
 
 /// Puts the system as the script of the commands that make it from the opening one, each on its line. It takes no memory.
@@ -44,7 +44,7 @@ fn put_version<K: Sink>(
     out: &mut Buffered,
     sink: &mut K,
     version: u32,
-    numbering: Numbering,
+    numbering: Lineage,
 ) -> Result<(), Failed>
     ensures { Puts K.Sink sink out (version_lines version (numbering_of numbering)) result }
 {
@@ -59,13 +59,13 @@ fn put_version<K: Sink>(
 fn put_numbering<K: Sink>(
     out: &mut Buffered,
     sink: &mut K,
-    numbering: Numbering,
+    numbering: Lineage,
 ) -> Result<(), Failed>
     ensures { Puts K.Sink sink out (numbering_lines numbering) result }
 {
     match numbering {
-        Numbering::ByPlace => Ok(()),
-        Numbering::ByName => out.put(sink, b"lineage names\n"),
+        Lineage::Places => Ok(()),
+        Lineage::Names => out.put(sink, b"lineage names\n"),
     }
 }
 

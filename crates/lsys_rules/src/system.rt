@@ -22,18 +22,21 @@ use crate::rule_table::RuleTable;
 use crate::shared_group::SharedGroup;
 use lsys_bodies::{Filter, HomRule, Rule};
 use lsys_module::SymbolList;
-use lsys_reading::{LatticeName, Numbering};
+use lsys_reading::{LatticeName, Lineage};
 use lsys_text::{Name, Word};
 use std::alloc::{AllocError, Global};
 use std::marker::Model;
+use std::rc::Rc;
 
 /// What the accepted edits leave. Contracts see it as the system of the definitions, and it is well formed and well spelled
 /// always: no label stands twice, no group is mixed, the schedule has some word and names tables alone, own lists are those
 /// of tables, in version 1 there is none and symbols are numbered by places, no limit is passed, brackets are balanced, and
 /// each expression's names are formals of its rule.
+///
+/// Copies share what they have: a copy takes no memory.
 #[derive(Drop)]
 pub struct System {
-    parts: SystemParts,
+    parts: Rc<SystemParts>,
 }
 
 impl Model for System {
@@ -48,9 +51,9 @@ impl Model for System {
     ghost use Rattle.lsys_laws.specs.Sessions.{IsWell};
     ghost use Rattle.lsys_rules.specs.Systems.{system_of};
 
-    ghost view = { λ a. system_of a.parts };
+    ghost view = { λ a. system_of a.parts.value };
 
-    ghost invariant = { λ a. IsWell (system_of a.parts) };
+    ghost invariant = { λ a. IsWell (system_of a.parts.value) };
 }
 
 impl System {
@@ -75,18 +78,20 @@ impl System {
             depth: 0,
             lattice: LatticeName::Square,
             version: 1,
-            numbering: Numbering::ByPlace,
+            numbering: Lineage::Places,
             own: OwnTable::new(alloc)?,
         };
-        Ok(System { parts })
+        System::of(alloc, parts)
     }
 
     // The system with these parts.
-    pub(crate) fn of(parts: SystemParts) -> System
+    pub(crate) fn of(alloc: Global, parts: SystemParts) -> Result<System, AllocError>
         requires { IsWell (system_of parts) }
-        ensures { result ≡ system_of parts }
+        ensures { IfOk result (λ s. s ≡ system_of parts) }
     {
-        System { parts }
+        Ok(System {
+            parts: Rc::new(alloc, parts)?,
+        })
     }
 
     // Its parts.
@@ -184,7 +189,7 @@ impl System {
     }
 
     /// How symbols are numbered; by places in version 1.
-    pub fn lineage(&self) -> Numbering
+    pub fn lineage(&self) -> Lineage
         ensures { numbering_of result ≡ self.now.numbering }
     {
         self.parts.numbering

@@ -10,7 +10,7 @@ use lsys_draw::{axiom_key, child_key};
 use lsys_flat::{Level, NextLevel, Origin, TagSupply, move_kept, pair};
 use lsys_level::Tag;
 use lsys_module::{Module, Params, Symbol};
-use lsys_reading::Numbering;
+use lsys_reading::Lineage;
 use lsys_text::Name;
 use std::alloc::Global;
 use std::process::Abort;
@@ -195,7 +195,7 @@ fn add(rt: &impl Abort, level: &mut NextLevel, key: u64, successor: &[Symbol])
 
 #[test]
 fn a_cut_goes_on_behind_the_children_of_one_symbol(rt: HostRuntime) {
-    let mut level = NextLevel::new(rt.alloc(), Numbering::ByPlace, 4);
+    let mut level = NextLevel::new(rt.alloc(), Lineage::Places, 4);
     add(&rt, &mut level, 70, &[Symbol::Push]);
     let with_cut = [letter(b"A"), Symbol::Cut, letter(b"B"), Symbol::Push];
     add(&rt, &mut level, 71, &with_cut);
@@ -222,7 +222,7 @@ fn is_made_behind_a_cut(rt: &impl Abort, made: &Level) {
 /// `A[%A` and `]ABA` by names: what was cut off is counted, and brackets have codes too.
 #[test]
 fn children_by_names_are_counted_by_letter(rt: HostRuntime) {
-    let mut level = NextLevel::new(rt.alloc(), Numbering::ByName, 6);
+    let mut level = NextLevel::new(rt.alloc(), Lineage::Names, 6);
     let with_cut = [letter(b"A"), Symbol::Push, Symbol::Cut, letter(b"A")];
     add(&rt, &mut level, 70, &with_cut);
     let behind = [Symbol::Pop, letter(b"A"), letter(b"B"), letter(b"A")];
@@ -255,7 +255,7 @@ fn is_counted_by_letter(rt: &impl Abort, made: &Level) {
 #[test]
 fn the_axiom_is_what_replaces_the_seed(rt: HostRuntime) {
     let axiom = [letter(b"A"), letter(b"B")];
-    let mut level = NextLevel::new(rt.alloc(), Numbering::ByPlace, 2);
+    let mut level = NextLevel::new(rt.alloc(), Lineage::Places, 2);
     add(&rt, &mut level, 5, &axiom);
     let made = level.finish().expect(&rt, "it has room");
     is_row(
@@ -268,7 +268,7 @@ fn the_axiom_is_what_replaces_the_seed(rt: HostRuntime) {
 
 /// A level that may have one symbol has no room for these two.
 fn has_no_room(rt: &impl Abort, alloc: Global, axiom: &[Symbol; 2]) {
-    let mut over = NextLevel::new(alloc, Numbering::ByPlace, 1);
+    let mut over = NextLevel::new(alloc, Lineage::Places, 1);
     add(rt, &mut over, 5, axiom);
     is_true(rt, over.finish().is_none());
 }

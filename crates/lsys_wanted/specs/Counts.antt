@@ -5,7 +5,7 @@ use Rattle.std.specs.HashMap.{get}
 use Rattle.std.specs.Map.{count_at}
 use Rattle.lsys_syntax.specs.Commands.{Numbering, by_place, by_name}
 use Rattle.lsys_spec.specs.Draws.{number_base, child_key_of}
-use Rattle.lsys_reading.specs.declared.parts.Numbering.TheVariants as code
+use Rattle.lsys_reading.specs.declared.parts.Lineage.TheVariants as code
 use Rattle.lsys_reading.specs.Commands.{numbering_of}
 use Rattle.lsys_rewrite.specs.Cutting.{symbol_stays}
 use Rattle.lsys_module.specs.Views.{symbol_of}
@@ -41,7 +41,7 @@ PutsChildIfLeft old new cutting key number s =
 pub record IsBehind (n : ℕ) (before : List ℕ) (a : Numbers) : Type 0 where
   pub symbols : a.symbols ≡ n
   pub length : length before ≡ n
-  pub counts : a.numbering ≡ code.ByName
+  pub counts : a.numbering ≡ code.Names
       → (c : ℕ) → count_at (get nat_eq a.counts) c ≡ count_by (λ d. d == c) before
 
 -- this is the number of the next symbol, which has this code

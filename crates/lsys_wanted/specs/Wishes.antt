@@ -10,7 +10,7 @@ use Rattle.lsys_spec.specs.Cuts.{cut}
 use Rattle.lsys_spec.specs.Meaning.{children}
 use Rattle.lsys_level.specs.Spots.{Seen, with_lineage}
 use Rattle.lsys_level.specs.Places.{seen_in}
-use Rattle.lsys_reading.specs.declared.parts.Numbering.{Numbering as CodeNumbering}
+use Rattle.lsys_reading.specs.declared.parts.Lineage.{Lineage as CodeNumbering}
 use Rattle.lsys_reading.specs.Commands.{numbering_of}
 use Rattle.lsys_brood.specs.declared.child.Child.{Child}
 use Rattle.lsys_brood.specs.Matches.{AreDifferent}

@@ -5,15 +5,15 @@ ghost use Rattle.lsys_module.specs.Views.{symbol_of};
 ghost use Rattle.lsys_wanted.specs.Counts.{IsBehind, AreFew, GoesBehind, IsNumberOf};
 
 use lsys_brood::Number;
-use lsys_module::Symbol;
-use lsys_reading::Numbering;
+use lsys_module::{Symbol, name_code};
+use lsys_reading::Lineage;
 use std::alloc::{AllocError, Global};
 use std::collections::HashMap;
 
 /// What tells the symbols of a successor, one after another, from each other.
 #[derive(Drop)]
 pub(crate) struct Numbers {
-    pub(crate) numbering: Numbering,
+    pub(crate) numbering: Lineage,
     // how many symbols there were
     pub(crate) symbols: u32,
     // by names, how many of each code
@@ -24,14 +24,14 @@ impl Numbers {
     /// Takes no memory.
     pub(crate) fn new(alloc: Global) -> Numbers {
         Numbers {
-            numbering: Numbering::ByPlace,
+            numbering: Lineage::Places,
             symbols: 0,
             counts: HashMap::new(alloc),
         }
     }
 
     /// Begins with another successor.
-    pub(crate) fn begin(&mut self, numbering: Numbering)
+    pub(crate) fn begin(&mut self, numbering: Lineage)
         ensures behind { IsBehind 0 [] self.new }
         ensures numbering { self.new.numbering ≡ numbering }
     {
@@ -50,12 +50,12 @@ impl Numbers {
         let place = self.symbols;
         self.symbols += 1;
         match self.numbering {
-            Numbering::ByPlace => Ok(Number {
+            Lineage::Places => Ok(Number {
                 code: 0,
                 count: place,
             }),
-            Numbering::ByName => {
-                let code = symbol.code();
+            Lineage::Names => {
+                let code = name_code(symbol);
                 let count = self.counts.get(&code).copied().unwrap_or(0);
                 self.counts.insert(code, count + 1)?;
                 Ok(Number { code, count })

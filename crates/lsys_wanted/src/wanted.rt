@@ -14,7 +14,7 @@ use lsys_brood::{Child, Number};
 use lsys_draw::child_key;
 use lsys_level::Sight;
 use lsys_module::{Module, Params, Symbol};
-use lsys_reading::Numbering;
+use lsys_reading::Lineage;
 use lsys_rewrite::{cutting_behind, stays};
 use std::alloc::{AllocError, Global};
 use std::marker::Model;
@@ -56,7 +56,7 @@ impl Wanted {
     /// Want of memory. What is there is of no use then.
     pub fn fill(
         &mut self,
-        numbering: Numbering,
+        numbering: Lineage,
         key: u64,
         successor: &[Symbol],
     ) -> Result<(), AllocError>
@@ -83,7 +83,7 @@ impl Wanted {
     /// Want of memory. What is there is of no use then.
     pub fn fill_itself(
         &mut self,
-        numbering: Numbering,
+        numbering: Lineage,
         key: u64,
         symbol: &Symbol,
     ) -> Result<(), AllocError>

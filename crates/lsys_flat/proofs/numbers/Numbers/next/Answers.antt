@@ -5,5 +5,5 @@ use Rattle.lsys_flat.proofs.numbers.Numbers.next.Goals as goal
 pub overflow_add-count : goal.overflow_add-count
 overflow_add-count c = grind (arith, common_steps)
 
-pub returns-in_ok-insert-in-ByName-clause-behind : goal.returns-in_ok-insert-in-ByName-clause-behind
-returns-in_ok-insert-in-ByName-clause-behind c = grind (arith, common_steps)
+pub returns-in_ok-insert-in-Names-clause-behind : goal.returns-in_ok-insert-in-Names-clause-behind
+returns-in_ok-insert-in-Names-clause-behind c = grind (arith, common_steps)
