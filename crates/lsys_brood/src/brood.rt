@@ -103,7 +103,9 @@ impl Brood {
 
     /// Makes the children of a node those that are wanted: the old ones of their numbers, in whatever order these stood, with
     /// the symbols and the keys that are wanted, and new nodes where there were none. What differs is told. All other nodes
-    /// stay as they are; so do the children, and the answers, of the old ones.
+    /// stay as they are; so do the children, and the answers, of the old ones. Two things take memory, and both come before any
+    /// change: the numbers are matched, and there has to be room for the list of all wanted nodes. The forest has the room for its
+    /// part.
     ///
     /// # Errors
     ///

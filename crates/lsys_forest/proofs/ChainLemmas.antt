@@ -20,7 +20,7 @@ tail_is : (xs ys : List ℕ) (x y : ℕ) → x ∷ xs ≡ y ∷ ys → xs ≡ ys
 tail_is xs ys x y e = grind (arith, e)
 
 -- what stands behind a node of a row, to which one is added
-push_split : (row : List ℕ) (kid : ℕ) (b : List ℕ) (k : ℕ) (a : List ℕ) → AreApart (row ++ kid ∷ []) → k ≢ kid → row ++ kid ∷ [] ≡ b ++ k ∷ a → (rest : List ℕ) × (row ≡ b ++ k ∷ rest) × (a ≡ rest ++ kid ∷ [])
+pub push_split : (row : List ℕ) (kid : ℕ) (b : List ℕ) (k : ℕ) (a : List ℕ) → AreApart (row ++ kid ∷ []) → k ≢ kid → row ++ kid ∷ [] ≡ b ++ k ∷ a → (rest : List ℕ) × (row ≡ b ++ k ∷ rest) × (a ≡ rest ++ kid ∷ [])
 push_split row kid b k a apart ne whole =
     let s = In_split k row (among (In_append row (kid ∷ []) k (subst (In k) (sym whole) (In_right k b (k ∷ a) (inl refl))))) in
     let again : row ++ kid ∷ [] ≡ s.0 ++ k ∷ (s.1 ++ kid ∷ []) = ap (λ (l : List ℕ). l ++ kid ∷ []) s.2 ∙ append_assoc s.0 (k ∷ s.1) (kid ∷ []) in
@@ -88,6 +88,7 @@ row_start footings before = record {
   from = λ k e. inr e;
   others = λ k none far. refl;
   ranks = λ k. refl;
+  mates = λ k. refl;
 }
 
 pub row_on : (old mid new : List Footing) (before last : Option ℕ) (done : List ℕ) (kid : ℕ) → LinksRow old mid before done last → Joins mid new last kid → LinksRow old new before (done ++ kid ∷ []) (Some kid)
@@ -103,6 +104,7 @@ row_on old mid new before last done kid e joins = record {
     | inr h ↦ far h
   ]) ∙ e.others k (λ h. none (In_left k done (kid ∷ []) h)) far;
   ranks = λ k. joins.ranks k ∙ e.ranks k;
+  mates = λ k. joins.mates k ∙ e.mates k;
 }
 
 -- the first so many of a row

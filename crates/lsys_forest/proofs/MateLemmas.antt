@@ -14,7 +14,10 @@ use Rattle.lsys_forest.specs.declared.walk.Way.TheVariants.{Left, Right}
 use Rattle.lsys_forest.specs.Nodes.{Node, Nodes, seen_as}
 use Rattle.lsys_forest.specs.Rows.{index_in, oriented, spot_in}
 use Rattle.lsys_forest.specs.Mates.{nested, IsBracketThat, seen_level, IsMateThat}
-use Rattle.lsys_forest.proofs.RowLemmas.{In_right, oriented_In_back, index_of}
+use Rattle.lsys_forest.specs.declared.node.Footing.{Footing}
+use Rattle.lsys_forest.specs.Slots.{mate_at}
+use Rattle.lsys_forest.specs.Pairs.{turned, opening, ends_or, end_of, seen_at, AreMatedIn}
+use Rattle.lsys_forest.proofs.RowLemmas.{In_right, In_split, oriented_In_back, index_of}
 use Rattle.lsys_forest.proofs.WalkLemmas.{mirrored_around, mirrored_twice, mirrored_push}
 
 -- 1. closing brackets and balance, whatever the lineages are
@@ -127,6 +130,14 @@ some_none o some none = grind (arith, some, none)
 way_size : (way : Way) (xs : List ℕ) → length (oriented way xs) ≡ length xs
 way_size Right xs = refl
 way_size Left xs = mirror_size xs
+
+turned_kind : (way : Way) (kind : Kind) (params : List ℤ) (n : ℕ) → turned way (seen_as kind params) n ≡ nested way kind n
+turned_kind Right kinds.Push params n = refl
+turned_kind Right kinds.Pop params n = refl
+turned_kind Right (kinds.Module name) params n = refl
+turned_kind Left kinds.Push params n = refl
+turned_kind Left kinds.Pop params n = refl
+turned_kind Left (kinds.Module name) params n = refl
 
 module _ {A : Type 0} where
   seen_append : (naming : ℕ → List ℕ) (m : Nodes A) (xs ys : List ℕ) → seen_level naming m (xs ++ ys) ≡ seen_level naming m xs ++ seen_level naming m ys
@@ -322,3 +333,62 @@ module _ {A : Type 0} where
   met_size way m level node inside q w =
       let size = ap length w.here in
       omega (arith, size, way_size way level, around_size (other_side way w.before w.after ++ node ∷ w.between) q w.ahead, around_size (other_side way w.before w.after) node w.between)
+
+  -- 3. the walk as a whole
+
+  walk_started : (way : Way) (m : Nodes A) (level before after : List ℕ) (node : ℕ) (at : Option ℕ) (whole : level ≡ before ++ node ∷ after) (bracket : IsBracketThat way (m node)) (is : at ≡ first_in (walked way before after)) → (walk_start way m level before after node at whole bracket is).ahead ≡ walked way before after
+  unfolding walk_start
+  walk_started Right m level before after node at whole bracket is = refl
+  walk_started Left m level before after node at whole bracket is = refl
+
+  walk_past : (way : Way) (m : Nodes A) (level : List ℕ) (node inside still q : ℕ) (at : Option ℕ) (n : Node A) (kind : Kind) (params : List ℤ) (rest : List ℕ) → m q ≡ Some n → n.seen ≡ seen_as kind params → nested way kind inside ≡ Some still → (w : IsWalk way m level node inside at) → w.ahead ≡ q ∷ rest → (x : IsWalk way m level node still (first_in rest)) × (x.ahead ≡ rest)
+  walk_past way m level node inside still q at n kind params rest is seen e w here = (
+    record {
+      before = w.before;
+      after = w.after;
+      between = w.between ++ q ∷ [];
+      ahead = rest;
+      whole = w.whole;
+      path = w.path ∙ ap (λ (l : List ℕ). w.between ++ l) here ∙ sym (append_assoc w.between (q ∷ []) rest);
+      at_is = refl;
+      few = omega (arith, w.few, still_few way kind inside still e, length_push w.between q);
+      count = counted way m w.after node inside still w.between q rest n kind params is seen e (subst (Counts way m w.after node inside w.between) here w.count);
+    },
+    refl,
+  )
+
+  -- a node that lives, of some kind
+  pub record IsOfKind (m : Nodes A) (q : ℕ) : Type 0 where
+    pub node : Node A
+    pub is : m q ≡ Some node
+    pub kind : Kind
+    pub params : List ℤ
+    pub seen : node.seen ≡ seen_as kind params
+
+  walk_whole : (way : Way) (m : Nodes A) (level : List ℕ) (node : ℕ) (top : Node A) → AreApart level → m node ≡ Some top → IsBracketThat way (Some top) → level_balanced 0 (seen_level (λ tag. []) m level) ≡ true → ((q : ℕ) → In q level → IsOfKind m q) → (rest : List ℕ) (inside : ℕ) (at : Option ℕ) (w : IsWalk way m level node inside at) → w.ahead ≡ rest → (q : ℕ) × (end_of way (seen_at m) inside rest ≡ Some q) × IsMateThat way m level node q
+  walk_whole way m level node top apart is bracket balanced kind [] inside at w e = absurd (walk_ends way m level node inside top balanced is bracket (subst (IsWalk way m level node inside) (w.at_is ∙ ap first_in e) w))
+  walk_whole way m level node top apart is bracket balanced kind (q ∷ rest) inside at w e =
+      let there = met way m level node inside q at w (w.at_is ∙ ap first_in e) in
+      let here = kind q (met_among way m level node inside q there) in
+      let turns : turned way (seen_at m q) inside ≡ nested way here.kind inside = ap (λ (o : Option (Node A)). turned way (spot_in q o).seen inside) here.is ∙ ap (λ s. turned way s inside) here.seen ∙ turned_kind way here.kind here.params inside in
+      go there here turns (nested way here.kind inside) refl (λ still y same. walk_whole way m level node top apart is bracket balanced kind rest still (first_in rest) y same)
+    where
+      go : (there : IsMet way m level node inside q) (here : IsOfKind m q) → turned way (seen_at m q) inside ≡ nested way here.kind inside → (o : Option ℕ) → nested way here.kind inside ≡ o → ((still : ℕ) (y : IsWalk way m level node still (first_in rest)) → y.ahead ≡ rest → (r : ℕ) × (end_of way (seen_at m) still rest ≡ Some r) × IsMateThat way m level node r) → (r : ℕ) × (end_of way (seen_at m) inside (q ∷ rest) ≡ Some r) × IsMateThat way m level node r
+      go there here turns None f on = (q, ap (λ o. ends_or o q (λ k. end_of way (seen_at m) k rest)) (turns ∙ f), walk_found way m level node inside q top here.node here.kind here.params apart is bracket here.is here.seen f there)
+      go there here turns (Some still) f on =
+          let y = walk_past way m level node inside still q at here.node here.kind here.params rest here.is here.seen f w e in
+          let r = on still y.0 y.1 in
+          (r.0, ap (λ o. ends_or o q (λ k. end_of way (seen_at m) k rest)) (turns ∙ f) ∙ r.1, r.2)
+
+  -- on a level with mates, what stands at a bracket is its mate
+  pub mate_stands : (way : Way) (m : Nodes A) (level : List ℕ) (footings : List Footing) (node : ℕ) (top : Node A) → AreApart level → In node level → m node ≡ Some top → IsBracketThat way (Some top) → level_balanced 0 (seen_level (λ tag. []) m level) ≡ true → ((q : ℕ) → In q level → IsOfKind m q) → AreMatedIn (seen_at m) level footings → (q : ℕ) × (mate_at footings node ≡ Some q) × IsMateThat way m level node q
+  mate_stands way m level footings node top apart among is bracket balanced kind mated =
+      let s = In_split node level among in
+      let b = subst (IsBracketThat way) (sym is) bracket in
+      let w = walk_start way m level s.0 s.1 node (first_in (walked way s.0 s.1)) s.2 b refl in
+      let r = walk_whole way m level node top apart is bracket balanced kind (walked way s.0 s.1) 0 (first_in (walked way s.0 s.1)) w (walk_started way m level s.0 s.1 node (first_in (walked way s.0 s.1)) s.2 b refl) in
+      (r.0, mated node r.0 way (other_side way s.0 s.1) (walked way s.0 s.1) (that_way way level s.0 s.1 node s.2) (opens way bracket) r.1, r.2)
+    where
+      opens : (way : Way) → IsBracketThat way (Some top) → seen_at m node ≡ opening way
+      opens Right b = ap (λ (o : Option (Node A)). (spot_in node o).seen) is ∙ b
+      opens Left b = ap (λ (o : Option (Node A)). (spot_in node o).seen) is ∙ b

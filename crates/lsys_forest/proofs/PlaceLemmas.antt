@@ -1,9 +1,9 @@
 -- Which of two nodes of a level comes first: by their ranks where they have one parent, else as their parents do.
 use Rattle.std.specs.Prelude.{◌↔◌}
-use Rattle.std.proofs.Common.{◌≡◌, ◌≢◌, ◌+◌, ◌<◌, ℕ, zero, suc, List, ◌∷◌, ◌++◌, length, slice_get, Some, sym, ap, ◌∙◌, arith, inl, inr, subst, append_assoc}
+use Rattle.std.proofs.Common.{◌≡◌, ◌≢◌, ◌+◌, ◌<◌, ℕ, zero, suc, List, [], ◌∷◌, ◌++◌, length, slice_get, Some, sym, ap, ◌∙◌, arith, inl, inr, subst, append_assoc}
 use Rattle.std.proofs.lemmas.List.{length-append}
 use Rattle.std.proofs.lemmas.Option.{slice_get_within}
-use Rattle.lsys_spec.specs.Rows.{In, AreApart, flat}
+use Rattle.lsys_spec.specs.Rows.{In, AreApart, first_in, flat}
 use Rattle.lsys_forest.specs.Nodes.{Nodes}
 use Rattle.lsys_forest.specs.Changes.{Change}
 use Rattle.lsys_forest.specs.Groves.{IsRooted}
@@ -107,3 +107,14 @@ module _ {A : Type 0} where
         let one = In_at k (kids_in (m (parent_in (m k)))) (among (suc t) k h) in
         let two = In_at l (kids_in (m (parent_in (m l)))) (among (suc t) l g) in
         across (λ j. kids_in (m j)) (level_nodes m root t) (parent_in (m k)) (parent_in (m l)) one.0 two.0 k l (level_apart root changes m sound t) (level_apart root changes m sound (suc t)) (above t k h) (above t l g) ne one.1 two.1
+
+-- who stands right behind another one comes after it
+pub next_comes : (row b a : List ℕ) (one two : ℕ) → AreApart row → row ≡ b ++ one ∷ a → first_in a ≡ Some two → index_in one row < index_in two row
+next_comes row b [] one two apart e f = cc
+next_comes row b (x ∷ more) one two apart e f =
+    let same : x ≡ two = cc in
+    let here : row ≡ b ++ one ∷ (two ∷ more) = subst (λ y. row ≡ b ++ one ∷ (y ∷ more)) same e in
+    let there : row ≡ (b ++ one ∷ []) ++ two ∷ more = here ∙ sym (append_assoc b (one ∷ []) (two ∷ more)) in
+    let first : index_in one row ≡ length b = ap (index_in one) here ∙ index_of one b (two ∷ more) (subst AreApart here apart) in
+    let second : index_in two row ≡ length (b ++ one ∷ []) = ap (index_in two) there ∙ index_of two (b ++ one ∷ []) more (subst AreApart there apart) in
+    omega (arith, first, second, length-append b (one ∷ []))

@@ -22,7 +22,7 @@ pub record SlotTable (A : Type 0) : Type 0 where
 
 -- where a node stands that has no others
 abbrev pub no_footing : Footing
-no_footing = record { rank = 0; left = None; right = None }
+no_footing = record { rank = 0; left = None; right = None; mate = None }
 
 abbrev pub footing_at : List Footing → ℕ → Footing
 footing_at footings k = slice_index_or footings k no_footing
@@ -39,6 +39,10 @@ link_in Right f = f.right
 abbrev pub link_at : Way → List Footing → ℕ → Option ℕ
 link_at way footings k = link_in way (footing_at footings k)
 
+-- the mate that a footing names
+abbrev pub mate_at : List Footing → ℕ → Option ℕ
+mate_at footings k = (footing_at footings k).mate
+
 abbrev pub rank_set : ℕ → Footing → Footing
 rank_set x f = record f { rank = x }
 
@@ -47,6 +51,9 @@ right_set x f = record f { right = x }
 
 abbrev pub links_set : Option ℕ → Option ℕ → Footing → Footing
 links_set left right f = record f { left = left; right = right }
+
+abbrev pub mate_set : Option ℕ → Footing → Footing
+mate_set x f = record f { mate = x }
 
 -- a run where a node is, or this one where none is
 abbrev pub run_before : {X : Type 0} → Option X → Option ℕ → Option ℕ → Option ℕ

@@ -1,10 +1,10 @@
 //! The forest.
-ghost use Rattle.std.specs.Prelude.{◌↔◌, ◌≡◌, ◌≢◌, ◌+◌, ◌<◌, ◌≤◌, ◌^◌, ℕ, [], None, Some, IfOk, OnOk, IsTrue, false, option_copied, length, max};
+ghost use Rattle.std.specs.Prelude.{◌↔◌, ◌≡◌, ◌≢◌, ◌⊎◌, ◌+◌, ◌-◌, ◌<◌, ◌≤◌, ◌^◌, ℕ, [], None, Some, IfOk, OnOk, IsTrue, false, option_copied, length, max, List, ℤ};
 ghost use Rattle.lsys_module.specs.declared.symbol.Symbol.TheVariants.{Cut};
 ghost use Rattle.lsys_level.specs.Places.{seen_in, params_in};
 ghost use Rattle.lsys_level.specs.Views.{seen_of, HasFewParams};
 ghost use Rattle.lsys_region.specs.Rooms.{list_room};
-ghost use Rattle.lsys_forest.specs.Nodes.{Node, root_node, with_seen, with_key, with_kids, with_answer, ForNode};
+ghost use Rattle.lsys_forest.specs.Nodes.{Node, root_node, seen_as, with_seen, with_key, with_kids, with_answer, ForNode};
 ghost use Rattle.lsys_forest.specs.Slots.{live_slots};
 ghost use Rattle.lsys_forest.specs.Changes.{undone};
 ghost use Rattle.lsys_forest.specs.Stocks.{nodes_of, changes_of, KeepsRoom};
@@ -12,19 +12,23 @@ ghost use Rattle.lsys_forest.specs.Answers.{LiveApart};
 ghost use Rattle.lsys_forest.specs.Rows.{oriented, complete_levels, level_of_node, place_of_node, IsAtSpot, level_with};
 ghost use Rattle.lsys_forest.specs.Mates.{mate_way};
 ghost use Rattle.lsys_forest.specs.Ranks.{AreRanked, AreLinked};
+ghost use Rattle.lsys_forest.specs.Pairs.{AreSameSort};
 ghost use Rattle.lsys_forest.specs.Groves.{now_of, rest_of, IsAtRest, IsLive, live_nodes, numbers_in, spare_params, spare_kids, kept_in, changes_in, IsRooted, AreSound, Reached, AreKids, Spends, KeepsSpares, Alters, AddsNode, NotesAnswer, KeepsReached, FreesAllBesides};
+ghost use Rattle.lsys_forest.specs.Regions.{ParamsStandIn, KidsStandIn, HasNoPastLists};
 ghost use Rattle.lsys_forest.specs.LastChange.{answers_in, StaysUnchanged, UndoDropsMade, GoesBack, StoreFollows};
 ghost use Rattle.lsys_forest.specs.Neighbours.{IsNextIn, IsChildFrom, IsFirstBelow, IsLastBelow};
 
 use crate::kept::Kept;
 use crate::link::link_levels;
 use crate::node::{Kind, NodeId};
+use crate::pairs::mate_levels;
 use crate::seen::is_seen;
 use crate::stock::Parts;
 use crate::sweep::sweep_all;
-use crate::walk::{Way, beside, first_at, first_child, is_before, mate_of};
+use crate::walk::{Way, beside, comes_before, first_at, first_child, mate_of};
 use lsys_level::{LevelView, Sight, Tag};
 use lsys_module::Symbol;
+use lsys_region::Region;
 use std::alloc::{AllocError, Global};
 use std::marker::Model;
 
@@ -35,6 +39,8 @@ pub struct Forest<A> {
     root: NodeId,
     /// How many levels, from the first one on, have their nodes linked to their neighbours.
     linked: u32,
+    /// On how many levels, from the first one on, the mates of brackets stand at them.
+    mated: u32,
     spare_nodes: usize,
     spare_notes: usize,
 }
@@ -42,6 +48,7 @@ pub struct Forest<A> {
 impl<A> Model for Forest<A> {
     ghost use Rattle.lsys_forest.specs.Groves.{Grove, IsGrove};
     ghost use Rattle.lsys_forest.specs.Ranks.{AreRanked, AreLinked};
+    ghost use Rattle.lsys_forest.specs.Pairs.{AreMated};
     ghost use Rattle.lsys_forest.specs.Stocks.{nodes_of};
 
     ghost Value = { Grove A };
@@ -52,6 +59,7 @@ impl<A> Model for Forest<A> {
       grove : IsGrove a.parts a.root a.spare_nodes a.spare_notes;
       ranked : AreRanked (nodes_of a.parts) a.parts.footings;
       linked : AreLinked (nodes_of a.parts) a.root a.parts.footings a.linked;
+      mated : AreMated (nodes_of a.parts) a.root a.parts.footings a.mated;
     } };
 }
 
@@ -72,6 +80,7 @@ impl<A: Kept> Forest<A> {
             parts,
             root: NodeId(0),
             linked: 0,
+            mated: 0,
             spare_nodes: 0,
             spare_notes: 0,
         })
@@ -160,7 +169,9 @@ impl<A: Kept> Forest<A> {
         self.spare_notes -= 1;
         self.parts.set_kids(node, kids);
         self.parts.rerank(node);
-        self.linked = self.linked.min(self.parts.depth(node));
+        let depth = self.parts.depth(node);
+        self.linked = self.linked.min(depth);
+        self.mated = self.mated.min(depth);
     }
 
     /// Sets the symbol of a node that is not the root. Nothing else changes. It takes no memory.
@@ -175,7 +186,10 @@ impl<A: Kept> Forest<A> {
         ensures spends { Spends self.old self.new 0 (list_room (params_in symbol.now)) 0 1 }
     {
         self.spare_notes -= 1;
+        let kind = self.parts.kind(node);
+        let depth = self.parts.depth(node);
         self.parts.set_symbol(node, symbol);
+        self.mated = mated_still(self.mated, depth, kind, symbol);
     }
 
     /// Sets the key of a node that is not the root. Nothing else changes. It takes no memory.
@@ -203,9 +217,11 @@ impl<A: Kept> Forest<A> {
         self.parts.set_answer(node, answer);
     }
 
-    /// Links the nodes of the levels up to this one to their neighbours, where they aren't linked yet: a step along a linked
-    /// level is one look, and no climb. Children that are set, now or by a rollback, unlink the level that they are on and
-    /// those below. What a call answers doesn't depend on links, nor what it needs. It takes no memory.
+    /// Links the nodes of the levels up to this one to their neighbours, and brackets to their mates, where they aren't linked
+    /// yet: a step along a linked level is one look, and no climb, and so is the way to a mate. Children that are set, now or by
+    /// a rollback, unlink the level that they are on and those below. Mates go with the links, and also from the level of a
+    /// symbol that is set where a bracket comes or goes, and from all levels at a rollback: the next call finds them again. What
+    /// a call answers doesn't depend on links, nor what it needs. It takes no memory.
     pub fn link(&mut self, level: u32)
         ensures now { now_of self.new ≡ now_of self.old }
         ensures changes { changes_in self.new ≡ changes_in self.old }
@@ -217,6 +233,7 @@ impl<A: Kept> Forest<A> {
     {
         let levels = level.saturating_add(1);
         self.linked = link_levels(&mut self.parts, self.root, self.linked, levels);
+        self.mated = mate_levels(&mut self.parts, self.root, self.mated, self.linked);
     }
 
     /// The root. A forest is sound: its nodes hang together under the root, and did so at any time since the last rest.
@@ -233,6 +250,17 @@ impl<A: Kept> Forest<A> {
         ensures { result ≡ live_nodes self.now }
     {
         self.parts.live()
+    }
+
+    /// The regions in which the parameters of its nodes and the lists of their children stand, each list in a run of its own. No
+    /// other run is live, but for those of the lists that nodes had before a change since the last rest: at rest nothing else
+    /// takes room. It costs no step.
+    pub fn regions(&self) -> (&Region<i64>, &Region<NodeId>)
+        ensures params { ParamsStandIn self.now result.0.now }
+        ensures kids { KidsStandIn self.now result.1.now }
+        ensures rest { IsAtRest self.now → HasNoPastLists self.now }
+    {
+        self.parts.regions()
     }
 
     /// For how many nodes there is room. Each live node's number is below it. Only [`Forest::reserve`] raises it: so room for
@@ -316,6 +344,7 @@ impl<A: Kept> Forest<A> {
         ensures still { LiveApart A.run_at A.Holds store.new (kept_in self.new) }
     {
         undo_all(&mut self.parts, self.root, &mut self.linked, store);
+        self.mated = 0;
     }
 
     /// Keeps the forest as it is, as a rest: the nodes that are reached from the root stay node for node, and all others
@@ -335,14 +364,16 @@ impl<A: Kept> Forest<A> {
 }
 
 impl<A: Kept> Forest<A> {
-    /// Whether the first of two nodes of one complete level comes before the second.
+    /// Whether the first of two nodes of one complete level comes before the second. It is one look where the second stands
+    /// right behind the first on a linked level; else it climbs from both to where they meet.
     pub fn is_before(&self, one: NodeId, two: NodeId) -> bool
         requires one { IsAtSpot self.now one }
         requires two { IsAtSpot self.now two }
         requires level { level_of_node self.now two ≡ level_of_node self.now one }
         ensures { IsTrue result ↔ (place_of_node self.now one < place_of_node self.now two) }
     {
-        is_before(&self.parts, self.root, one, two, self.depth(one))
+        let depth = self.depth(one);
+        comes_before(&self.parts, self.root, one, two, depth, self.linked)
     }
 
     /// The first child of the nodes of a complete level from this one on; none where they have no children.
@@ -435,6 +466,7 @@ impl<A: Kept> LevelView for Forest<A> {
             spot,
             self.depth(spot),
             self.linked,
+            self.mated,
             way,
         )
     }
@@ -460,6 +492,20 @@ fn way_to_mate(kind: Kind) -> Way
     match kind {
         Kind::Pop => Way::Left,
         _ => Way::Right,
+    }
+}
+
+/// On how many levels mates stay, where they stood on so many, and a node so many steps below the root got this symbol in
+/// place of one of this kind: on all of them, where both are the same bracket or modules.
+fn mated_still(mated: u32, depth: u32, kind: Kind, symbol: &Symbol) -> u32
+    ensures fewer { result ≤ mated }
+    ensures sort { (params : List ℤ) → AreSameSort (seen_as kind params) (seen_in symbol.now) ⊎ (result ≤ depth - 1) }
+{
+    match (kind, symbol) {
+        (Kind::Push, Symbol::Push) => mated,
+        (Kind::Pop, Symbol::Pop) => mated,
+        (Kind::Module(_), Symbol::Module(_)) => mated,
+        _ => mated.min(depth.saturating_sub(1)),
     }
 }
 

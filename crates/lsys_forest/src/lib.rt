@@ -12,6 +12,7 @@ mod link;
 mod lists;
 mod node;
 mod note;
+mod pairs;
 mod runs;
 mod seen;
 mod stock;

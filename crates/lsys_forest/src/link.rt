@@ -3,7 +3,7 @@ ghost use Rattle.std.specs.Prelude.{◌≡◌, ◌+◌, ◌-◌, ◌<◌, Some};
 ghost use Rattle.lsys_spec.specs.Rows.{first_in};
 ghost use Rattle.lsys_forest.specs.Stocks.{nodes_of, changes_of};
 ghost use Rattle.lsys_forest.specs.Groves.{IsRooted};
-ghost use Rattle.lsys_forest.specs.Ranks.{AreRanked, AreLinked};
+ghost use Rattle.lsys_forest.specs.Ranks.{AreRanked, AreLinked, KeepsMates};
 ghost use Rattle.lsys_forest.specs.Rows.{level_nodes};
 
 use crate::kept::Kept;
@@ -24,6 +24,7 @@ pub(crate) fn link_levels<A: Kept>(
     requires linked { AreLinked (nodes_of parts.old) root parts.old.footings linked }
     ensures same { parts.new ≡ record parts.old { footings = parts.new.footings } }
     ensures ranked { AreRanked (nodes_of parts.new) parts.new.footings }
+    ensures mates { KeepsMates parts.old.footings parts.new.footings }
     ensures linked { AreLinked (nodes_of parts.new) root parts.new.footings result }
 {
     let mut depth = link_first(parts, root, linked);
@@ -45,6 +46,7 @@ fn link_first<A: Kept>(parts: &mut Parts<A>, root: NodeId, linked: u32) -> u32
     requires linked { AreLinked (nodes_of parts.old) root parts.old.footings linked }
     ensures same { parts.new ≡ record parts.old { footings = parts.new.footings } }
     ensures ranked { AreRanked (nodes_of parts.new) parts.new.footings }
+    ensures mates { KeepsMates parts.old.footings parts.new.footings }
     ensures linked { AreLinked (nodes_of parts.new) root parts.new.footings result }
     ensures some { 0 < result }
 {
@@ -70,6 +72,7 @@ fn link_level<A: Kept>(
     requires first { first_in (level_nodes (nodes_of parts.old) root (level - 1)) ≡ Some first }
     ensures same { parts.new ≡ record parts.old { footings = parts.new.footings } }
     ensures ranked { AreRanked (nodes_of parts.new) parts.new.footings }
+    ensures mates { KeepsMates parts.old.footings parts.new.footings }
     ensures linked { AreLinked (nodes_of parts.new) root parts.new.footings (level + 1) }
     ensures first { result ≡ first_in (level_nodes (nodes_of parts.old) root level) }
 {

@@ -66,6 +66,13 @@ impl<T: Copy> Lists<T> {
         self.past.reserve(more)
     }
 
+    /// The region.
+    pub(crate) fn region(&self) -> &Region<T>
+        ensures { result.now ≡ self.now.pool }
+    {
+        &self.region
+    }
+
     /// The list of a live run.
     pub(crate) fn read(&self, run: &Run) -> &[T]
         requires { IsLiveRun self.now.pool run.now }

@@ -4,6 +4,7 @@ ghost use Rattle.lsys_module.specs.declared.symbol.Symbol.TheVariants.{Cut};
 ghost use Rattle.lsys_level.specs.Places.{seen_in, params_in};
 ghost use Rattle.lsys_forest.specs.Nodes.{seen_as};
 ghost use Rattle.lsys_forest.specs.Groves.{HasFew};
+ghost use Rattle.lsys_forest.specs.SlotChanges.{stored_root};
 
 use lsys_module::Symbol;
 use lsys_region::Run;
@@ -59,6 +60,8 @@ pub(crate) struct Footing {
     /// Its neighbours on its level, where the level is linked.
     pub(crate) left: Option<NodeId>,
     pub(crate) right: Option<NodeId>,
+    /// The mate of a bracket, where its level has mates.
+    pub(crate) mate: Option<NodeId>,
 }
 
 /// A node with the runs of its parameters and of its children, and where it stands among others.
@@ -91,5 +94,20 @@ pub(crate) fn params_of(symbol: &Symbol) -> &[i64]
     match symbol {
         Symbol::Module(module) => module.params.values(),
         _ => &[],
+    }
+}
+
+/// The root as it is kept.
+pub(crate) fn root_stored<A>() -> Stored<A>
+    ensures { result ≡ stored_root }
+{
+    Stored {
+        parent: NodeId(0),
+        code: 0,
+        count: 0,
+        depth: 0,
+        kind: Kind::Push,
+        key: 0,
+        answer: None,
     }
 }

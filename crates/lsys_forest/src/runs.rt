@@ -6,7 +6,7 @@ ghost use Rattle.lsys_forest.specs.Shelves.{IsOwner};
 ghost use Rattle.lsys_forest.specs.Slots.{slot_at, rank_at, no_footing, live_slots};
 ghost use Rattle.lsys_forest.specs.Answers.{Lives, Releases};
 ghost use Rattle.lsys_forest.specs.Stocks.{Inserts, Swaps, Clears};
-ghost use Rattle.lsys_forest.specs.Ranks.{Joins, LinksRow, KeepsOtherRanks, KeepsLinks, IsApartFrom};
+ghost use Rattle.lsys_forest.specs.Ranks.{Joins, LinksRow, KeepsOtherRanks, KeepsLinks, KeepsMates, IsApartFrom};
 ghost use Rattle.lsys_forest.specs.NodeLists.{OnParams, OnKids, RestoresAt, kept_answer};
 ghost use Rattle.lsys_forest.specs.SlotChanges.{KeepsOtherFootings};
 
@@ -114,6 +114,7 @@ pub(crate) fn insert<A: Drop>(
             rank: 0,
             left: None,
             right: None,
+            mate: None,
         },
     };
     table.insert(entry)
@@ -181,6 +182,7 @@ pub(crate) fn number<A: Drop>(table: &mut Table<A>, kids: &[NodeId])
     ensures stands { (i k : ℕ) → slice_get kids.now i ≡ Some k → rank_at table.new.footings k ≡ i }
     ensures others { KeepsOtherRanks kids.now table.old.footings table.new.footings }
     ensures links { KeepsLinks table.old.footings table.new.footings }
+    ensures mates { KeepsMates table.old.footings table.new.footings }
     ensures table { table.new ≡ record table.old { footings = table.new.footings } }
 {
     for place in 0..kids.len() {

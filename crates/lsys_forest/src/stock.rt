@@ -4,27 +4,27 @@ ghost use Rattle.lsys_module.specs.declared.symbol.Symbol.TheVariants.{Cut};
 ghost use Rattle.lsys_level.specs.Places.{seen_in, params_in};
 ghost use Rattle.lsys_level.specs.Views.{seen_of};
 ghost use Rattle.lsys_region.specs.Rooms.{list_room};
-ghost use Rattle.lsys_forest.specs.declared.node.Kind.TheVariants.{Push};
 ghost use Rattle.lsys_forest.specs.declared.node.Stored.{Stored};
 ghost use Rattle.lsys_forest.specs.declared.walk.Way.{Way};
 ghost use Rattle.lsys_forest.specs.Shelves.{IsOwner, OnShelf};
-ghost use Rattle.lsys_forest.specs.Slots.{slot_at, rank_at, link_at, live_slots};
+ghost use Rattle.lsys_forest.specs.Slots.{slot_at, rank_at, link_at, mate_at, footing_at, mate_set, live_slots};
 ghost use Rattle.lsys_forest.specs.Answers.{old_answer, Lives, Releases};
 ghost use Rattle.lsys_forest.specs.Groves.{HasFew, IsRooted};
 ghost use Rattle.lsys_forest.specs.Nodes.{Node, root_node, with_node, ForNode};
 ghost use Rattle.lsys_forest.specs.Changes.{KeepsKids, Missing};
 ghost use Rattle.lsys_forest.specs.Stocks.{nodes_of, changes_of, row_at, KeepsRoom, KeepsFootings, undone_slots, undone_footings, DropsParams, TakesKids, noted_answer, nodes_named, named_by, kid_lists};
-ghost use Rattle.lsys_forest.specs.Ranks.{LinksRow, KeepsLinks, IsApartFrom, RanksKidsOf};
+ghost use Rattle.lsys_forest.specs.Ranks.{LinksRow, KeepsLinks, KeepsMates, IsApartFrom, RanksKidsOf};
 ghost use Rattle.lsys_forest.specs.Rows.{depth_in};
 ghost use Rattle.lsys_forest.specs.LastChange.{ForLastChange, StaysUnchanged, UndoDropsMade, GoesBack, TakesOneUp, RemovesNode};
 ghost use Rattle.lsys_forest.specs.Journaled.{JournalsSymbol, JournalsKey, JournalsAnswer, JournalsKids, JournalsBirth};
 ghost use Rattle.lsys_forest.specs.NodeLists.{UndoesNotedParams, UndoesNotedKids, dropped_by_note};
-ghost use Rattle.lsys_forest.specs.SlotChanges.{stored_root};
+ghost use Rattle.lsys_forest.specs.SlotChanges.{KeepsOtherFootings};
 ghost use Rattle.lsys_forest.specs.Neighbours.{kids_kept};
+ghost use Rattle.lsys_forest.specs.Regions.{StandIn};
 
 use crate::kept::{Kept, release_one};
 use crate::lists::Lists;
-use crate::node::{Kind, NodeId, Stored, kind_of, params_of};
+use crate::node::{Kind, NodeId, Stored, kind_of, params_of, root_stored};
 use crate::note::{Look, Note, Was};
 use crate::runs::{
     clear, insert, link_row, number, restore_kids, restore_params, swap_kids, swap_params, take_out,
@@ -33,6 +33,7 @@ use crate::table::Table;
 use crate::walk::Way;
 use lsys_level::Sight;
 use lsys_module::Symbol;
+use lsys_region::Region;
 use std::alloc::{AllocError, Global};
 use std::marker::Model;
 
@@ -189,6 +190,16 @@ impl<A: Drop> Parts<A> {
         }
     }
 
+    /// The regions in which the parameters and the lists of children stand.
+    pub(crate) fn regions(&self) -> (&Region<i64>, &Region<NodeId>)
+        ensures params { StandIn (nodes_of self.now) self.now.params self.now.past_params result.0.now }
+        ensures kids { StandIn (nodes_of self.now) self.now.kids self.now.past_kids result.1.now }
+        ensures rest { changes_of self.now ≡ [] → (self.now.past_params ≡ []) × (self.now.past_kids ≡ []) }
+    {
+        self.table.law_of_vacant_numbers();
+        (self.params.region(), self.kids.region())
+    }
+
     /// The rank of a node; 0 where it doesn't live.
     pub(crate) fn rank(&self, node: NodeId) -> usize
         ensures { result ≡ rank_at self.now.footings node }
@@ -201,6 +212,13 @@ impl<A: Drop> Parts<A> {
         ensures { result ≡ link_at way self.now.footings node }
     {
         self.table.link(node, way)
+    }
+
+    /// The mate that stands at a node; none where it doesn't live.
+    pub(crate) fn mate(&self, node: NodeId) -> Option<NodeId>
+        ensures { result ≡ mate_at self.now.footings node }
+    {
+        self.table.mate(node)
     }
 
     /// How many steps a node is below the root; 0 where it doesn't live.
@@ -381,6 +399,7 @@ impl<A: Drop> Parts<A> {
         ensures same { self.new ≡ record self.old { footings = self.new.footings } }
         ensures ranked { RanksKidsOf node self.old self.new }
         ensures links { KeepsLinks self.old.footings self.new.footings }
+        ensures mates { KeepsMates self.old.footings self.new.footings }
     {
         if let Some(run) = self.table.kids(node) {
             let kids = self.kids.read(run);
@@ -402,6 +421,16 @@ impl<A: Drop> Parts<A> {
             }
             None => before,
         }
+    }
+
+    /// Sets the mate that stands at a node that lives.
+    pub(crate) fn set_mate(&mut self, node: NodeId, mate: Option<NodeId>)
+        requires lives { IsSome (nodes_of self.old node) }
+        ensures same { self.new ≡ record self.old { footings = self.new.footings } }
+        ensures here { footing_at self.new.footings node ≡ mate_set mate (footing_at self.old.footings node) }
+        ensures others { KeepsOtherFootings node self.old.footings self.new.footings }
+    {
+        self.table.set_mate(node, mate);
     }
 }
 
@@ -552,21 +581,6 @@ fn take_note<A: Kept>(
             release_one(answer, store);
             Look::Nothing
         }
-    }
-}
-
-/// The root as it is kept.
-fn root_stored<A>() -> Stored<A>
-    ensures { result ≡ stored_root }
-{
-    Stored {
-        parent: NodeId(0),
-        code: 0,
-        count: 0,
-        depth: 0,
-        kind: Kind::Push,
-        key: 0,
-        answer: None,
     }
 }
 

@@ -3,8 +3,9 @@ ghost use Rattle.std.specs.Prelude.{◌≡◌, ◌↔◌, IsTrue, ◌+◌, ◌<�
 ghost use Rattle.slab.specs.Slab.{Slab, get};
 ghost use Rattle.lsys_forest.specs.Shelves.{run_at};
 ghost use Rattle.lsys_forest.specs.declared.node.Entry.{Entry};
-ghost use Rattle.lsys_forest.specs.Slots.{slot_at, rank_at, link_at, live_slots, run_after, kind_set, key_set, answer_set, answer_before, node_in, node_set, params_set, kids_set, footing_set, rank_set, right_set, links_set, PutsEntry, HasEntryAt};
+ghost use Rattle.lsys_forest.specs.Slots.{slot_at, rank_at, link_at, mate_at, live_slots, run_after, kind_set, key_set, answer_set, answer_before, node_in, node_set, params_set, kids_set, footing_set, rank_set, right_set, links_set, mate_set, PutsEntry, HasEntryAt};
 ghost use Rattle.lsys_forest.specs.SlotChanges.{KeepsOtherFootings, empty_table, param_run_at, kid_run_at, param_run_or, kid_run_or, entry_params_or, entry_kids_or, Vacates, ChangesSlot, ChangesParamRun, ChangesKidRun, ChangesFooting, FootingBecomes, ChangesEntry};
+ghost use Rattle.lsys_forest.specs.Regions.{HasNoVacantRuns};
 
 use crate::node::{Entry, Kind, NodeId, Stored};
 use crate::walk::Way;
@@ -105,6 +106,14 @@ impl<A: Drop> Table<A> {
         }
     }
 
+    /// A law of numbers: where no node lives, there are no runs of lists.
+    pub(crate) fn law_of_vacant_numbers(&self)
+        ensures { HasNoVacantRuns self.now }
+    {
+        // How the entries stand is known where the field is named.
+        let _ = &self.nodes;
+    }
+
     /// The rank of a node; 0 where it doesn't live.
     pub(crate) fn rank(&self, number: NodeId) -> usize
         ensures { result ≡ rank_at self.now.footings number }
@@ -123,6 +132,16 @@ impl<A: Drop> Table<A> {
         match way {
             Way::Left => entry.footing.left,
             Way::Right => entry.footing.right,
+        }
+    }
+
+    /// The mate that stands at a node; none where it doesn't live.
+    pub(crate) fn mate(&self, number: NodeId) -> Option<NodeId>
+        ensures { result ≡ mate_at self.now.footings number }
+    {
+        match self.nodes.get(number.0 as usize) {
+            Some(entry) => entry.footing.mate,
+            None => None,
         }
     }
 
@@ -223,6 +242,15 @@ impl<A: Drop> Table<A> {
     {
         change_links(&mut self.nodes, number, left, right);
     }
+
+    /// Sets the mate of a node, if it lives.
+    pub(crate) fn set_mate(&mut self, number: NodeId, mate: Option<NodeId>)
+        ensures same { self.new ≡ record self.old { footings = self.new.footings } }
+        ensures here { FootingBecomes (mate_set mate) number self.old self.new }
+        ensures others { KeepsOtherFootings number self.old.footings self.new.footings }
+    {
+        change_mate(&mut self.nodes, number, mate);
+    }
 }
 
 /// Sets a symbol without its parameters, and answers the one before.
@@ -314,5 +342,14 @@ fn change_links<A: Drop>(
     if let Some(entry) = nodes.get_mut(number.0 as usize) {
         entry.footing.left = left;
         entry.footing.right = right;
+    }
+}
+
+/// Sets the mate of a node, if it lives.
+fn change_mate<A: Drop>(nodes: &mut Slab<Entry<A>>, number: NodeId, mate: Option<NodeId>)
+    ensures { ChangesEntry (footing_set (mate_set mate)) number nodes.old nodes.new }
+{
+    if let Some(entry) = nodes.get_mut(number.0 as usize) {
+        entry.footing.mate = mate;
     }
 }

@@ -3,9 +3,11 @@ ghost use Rattle.std.specs.Prelude.{◌≡◌, ◌↔◌, IsTrue, ◌+◌, ◌-�
 ghost use Rattle.lsys_spec.specs.Rows.{In, AreApart, first_in};
 ghost use Rattle.lsys_forest.specs.Stocks.{nodes_of, changes_of};
 ghost use Rattle.lsys_forest.specs.Groves.{IsRooted};
-ghost use Rattle.lsys_forest.specs.Slots.{live_slots};
+ghost use Rattle.lsys_forest.specs.Slots.{link_at, live_slots};
+ghost use Rattle.lsys_forest.specs.declared.walk.Way.TheVariants.{Right};
 ghost use Rattle.lsys_forest.specs.Ranks.{AreRanked, AreLinked, parent_in};
 ghost use Rattle.lsys_forest.specs.Mates.{nested, IsBracketThat, IsMateThat};
+ghost use Rattle.lsys_forest.specs.Pairs.{AreMated};
 ghost use Rattle.lsys_forest.specs.Rows.{oriented, level_nodes};
 ghost use Rattle.lsys_forest.specs.Neighbours.{IsNextIn, IsNextToPlace, ComesBefore, nodes_at_depth, IsBalancedLevel, IsFirstKidFrom};
 
@@ -151,18 +153,20 @@ fn nest(way: Way, kind: Kind, inside: u32) -> Option<u32>
     }
 }
 
-/// The mate of a bracket, that way.
+/// The mate of a bracket, that way. Where mates were found on the level one look tells it; else a walk along the level.
 pub(crate) fn mate_of<A: Kept>(
     parts: &Parts<A>,
     root: NodeId,
     node: NodeId,
     depth: u32,
     linked: u32,
+    mated: u32,
     way: Way,
 ) -> NodeId
     requires sound { IsRooted root (changes_of parts.now) (nodes_of parts.now) }
     requires ranked { AreRanked (nodes_of parts.now) parts.now.footings }
     requires linked { AreLinked (nodes_of parts.now) root parts.now.footings linked }
+    requires mated { AreMated (nodes_of parts.now) root parts.now.footings mated }
     requires numbers { live_slots parts.now.slots < 2 ^ 32 }
     requires below { 0 < depth }
     requires among { In node (level_nodes (nodes_of parts.now) root (depth - 1)) }
@@ -170,6 +174,12 @@ pub(crate) fn mate_of<A: Kept>(
     requires bracket { IsBracketThat way (nodes_of parts.now node) }
     ensures { IsMateThat way (nodes_of parts.now) (nodes_at_depth parts.now root depth) node result }
 {
+    if depth <= mated {
+        let Some(mate) = parts.mate(node) else {
+            unreachable!()
+        };
+        return mate;
+    }
     let mut inside = 0;
     let mut at = beside(parts, root, node, depth, linked, way);
     while let Some(found) = at {
@@ -213,4 +223,37 @@ pub(crate) fn is_before<A: Kept>(
         return parts.rank(one) < parts.rank(two);
     }
     is_before(parts, root, parent, other, depth - 1)
+}
+
+/// The same, in one look where the second node stands right behind the first one on a linked level.
+pub(crate) fn comes_before<A: Kept>(
+    parts: &Parts<A>,
+    root: NodeId,
+    one: NodeId,
+    two: NodeId,
+    depth: u32,
+    linked: u32,
+) -> bool
+    requires sound { IsRooted root (changes_of parts.now) (nodes_of parts.now) }
+    requires ranked { AreRanked (nodes_of parts.now) parts.now.footings }
+    requires linked { AreLinked (nodes_of parts.now) root parts.now.footings linked }
+    requires below { 0 < depth }
+    requires one { In one (level_nodes (nodes_of parts.now) root (depth - 1)) }
+    requires two { In two (level_nodes (nodes_of parts.now) root (depth - 1)) }
+    ensures { IsTrue result ↔ ComesBefore (nodes_at_depth parts.now root depth) one two }
+{
+    if depth <= linked && is_linked_to(parts, one, two) {
+        return true;
+    }
+    is_before(parts, root, one, two, depth)
+}
+
+/// Whether the links tell that a node stands right behind another one.
+fn is_linked_to<A: Kept>(parts: &Parts<A>, one: NodeId, two: NodeId) -> bool
+    ensures { IsTrue result → link_at Right parts.now.footings one ≡ Some two }
+{
+    match parts.link(one, Way::Right) {
+        Some(next) => next == two,
+        None => false,
+    }
 }

@@ -1,6 +1,7 @@
 //! What a step of a turtle gives.
 
 use lsys_lattice::Place;
+use thiserror::Error;
 
 /// A line that a turtle drew, from one place to another, with a width of 1 to 1,000.
 #[derive(Clone, Copy, PartialEq, Eq, Debug)]
@@ -11,5 +12,6 @@ pub struct Segment {
 }
 
 /// A move to a place with a coordinate past 1,000,000,000 in magnitude.
-#[derive(Clone, Copy, PartialEq, Eq, Debug)]
+#[derive(Clone, Copy, PartialEq, Eq, Debug, Error)]
+#[error("a move past the coordinates that a turtle may have")]
 pub struct Far;

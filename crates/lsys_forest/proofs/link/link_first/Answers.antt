@@ -18,6 +18,9 @@ returns-clause-ranked g c =
     let e = c.link_kids.ensures in
     subst (λ (s : Stock g.row.A.Denot). AreRanked (nodes_of s) u.footings) (sym e.same) (same_ranked (nodes_of t) t.footings u.footings e.row.ranks c.requires.ranked)
 
+pub returns-clause-mates : goal.returns-clause-mates
+returns-clause-mates g c = c.link_kids.ensures.row.mates
+
 pub returns-clause-linked : goal.returns-clause-linked
 returns-clause-linked g c =
     let t = c.args.parts.now in

@@ -15,6 +15,7 @@ loop-at-init g c = record {
   same = refl;
   sound = c.requires.sound;
   ranked = c.requires.ranked;
+  mates = λ k. refl;
   linked = c.requires.linked;
   linking = linking_start (nodes_of c.args.parts.now) c.args.root (c.args.level - 1) c.args.parts.now.footings c.args.first c.requires.first;
 }
@@ -65,6 +66,7 @@ loop-at-preserved g c =
       same = e.same ∙ ap (λ (s : Stock g.row.A.Denot). record s { footings = u.footings }) was.same;
       sound = subst (λ (s : Stock g.row.A.Denot). IsRooted root (changes_of s) (nodes_of s)) (sym e.same) was.sound;
       ranked = subst (λ (s : Stock g.row.A.Denot). AreRanked (nodes_of s) u.footings) (sym e.same) (same_ranked m t.footings u.footings e.row.ranks was.ranked);
+      mates = λ k. e.row.mates k ∙ was.mates k;
       linked = subst (λ (s : Stock g.row.A.Denot). AreLinked (nodes_of s) root u.footings c.args.level) (sym e.same) linked;
       linking = subst (λ (s : Stock g.row.A.Denot). IsLinking (nodes_of s) root d u.footings last c.link-at.result) (sym e.same) (linking_on m root d t.footings u.footings c.loop-at.before last c.link-at.result above is e.row then);
     }
@@ -83,6 +85,9 @@ returns-clause-same g c = c.loop-at.invariant.same
 
 pub returns-clause-ranked : goal.returns-clause-ranked
 returns-clause-ranked g c = c.loop-at.invariant.ranked
+
+pub returns-clause-mates : goal.returns-clause-mates
+returns-clause-mates g c = c.loop-at.invariant.mates
 
 pub returns-clause-first : goal.returns-clause-first
 returns-clause-first g c =

@@ -16,6 +16,7 @@ loop-at-init g c =
       same = e.same;
       sound = subst (λ (s : Stock g.row.A.Denot). IsRooted c.args.root (changes_of s) (nodes_of s)) (sym e.same) c.requires.sound;
       ranked = e.ranked;
+      mates = e.mates;
       linked = e.linked;
       first = c.first_at-at.ensures;
       some = e.some;
@@ -34,6 +35,7 @@ loop-at-preserved g c =
       same = e.same ∙ ap (λ (s : Stock g.row.A.Denot). record s { footings = u.footings }) was.same;
       sound = subst (λ (s : Stock g.row.A.Denot). IsRooted root (changes_of s) (nodes_of s)) (sym e.same) was.sound;
       ranked = e.ranked;
+      mates = λ k. e.mates k ∙ was.mates k;
       linked = e.linked;
       first = e.first ∙ ap (λ (s : Stock g.row.A.Denot). first_in (level_nodes (nodes_of s) root d)) (sym e.same) ∙ ap (λ i. first_in (level_nodes (nodes_of u) root i)) here;
       some = omega arith;

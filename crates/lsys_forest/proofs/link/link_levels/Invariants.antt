@@ -2,7 +2,7 @@ use Rattle.std.proofs.Common.{◌≡◌, ◌-◌, ◌<◌}
 use Rattle.lsys_spec.specs.Rows.{first_in}
 use Rattle.lsys_forest.specs.Stocks.{nodes_of, changes_of}
 use Rattle.lsys_forest.specs.Groves.{IsRooted}
-use Rattle.lsys_forest.specs.Ranks.{AreRanked, AreLinked}
+use Rattle.lsys_forest.specs.Ranks.{AreRanked, AreLinked, KeepsMates}
 use Rattle.lsys_forest.specs.Rows.{level_nodes}
 use Rattle.lsys_forest.proofs.link.link_levels.Given as goal
 
@@ -11,6 +11,7 @@ invariant-loop-at g l = record {
   same : l.parts ≡ record l.fn.parts { footings = l.parts.footings };
   sound : IsRooted l.root (changes_of l.parts) (nodes_of l.parts);
   ranked : AreRanked (nodes_of l.parts) l.parts.footings;
+  mates : KeepsMates l.fn.parts.footings l.parts.footings;
   linked : AreLinked (nodes_of l.parts) l.root l.parts.footings l.depth;
   first : l.at ≡ first_in (level_nodes (nodes_of l.parts) l.root (l.depth - 1));
   some : 0 < l.depth;

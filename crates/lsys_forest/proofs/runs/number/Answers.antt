@@ -6,7 +6,7 @@ use Rattle.lsys_spec.specs.Rows.{In}
 use Rattle.lsys_forest.specs.declared.node.Footing.{Footing}
 use Rattle.lsys_forest.specs.declared.walk.Way.{Way}
 use Rattle.lsys_forest.specs.declared.walk.Way.TheVariants.{Left, Right}
-use Rattle.lsys_forest.specs.Slots.{SlotTable, slot_at, footing_at, rank_at, link_in, link_at, rank_set, change_footing}
+use Rattle.lsys_forest.specs.Slots.{SlotTable, slot_at, footing_at, rank_at, link_in, link_at, mate_at, rank_set, change_footing}
 use Rattle.lsys_forest.proofs.TableLemmas.{footing_other}
 use Rattle.lsys_forest.proofs.WalkLemmas.{get_In}
 use Rattle.lsys_forest.proofs.RankLemmas.{one_place}
@@ -22,6 +22,7 @@ loop-place-init g c = record {
   stands = λ i k less here. absurd (omega (arith, less));
   others = λ k none. refl;
   links = λ way k. refl;
+  mates = λ k. refl;
   table = refl;
   end = refl;
 }
@@ -54,6 +55,10 @@ loop-place-preserved g c =
         | inl e ↦ ap (link_at way u.footings) e ∙ ap (link_in way) set ∙ same_links way at (footing_at t.footings kid) ∙ ap (link_at way t.footings) (sym e)
         | inr ne ↦ ap (link_in way) (others k ne)
       ] ∙ was.links way k;
+      mates = λ k. elim (cases_eq k kid) [
+        | inl e ↦ ap (mate_at u.footings) e ∙ ap (λ (f : Footing). f.mate) set ∙ ap (mate_at t.footings) (sym e)
+        | inr ne ↦ ap (λ (f : Footing). f.mate) (others k ne)
+      ] ∙ was.mates k;
       table = c.set_rank.ensures.changed ∙ ap (λ (x : SlotTable g.row.A.Denot). record x { footings = change_footing (rank_set at) (slot_at t.slots kid) t.footings kid }) was.table ∙ ap (λ r. record c.args.table.now { footings = r }) (sym footings);
       end = was.end;
     }
@@ -68,6 +73,9 @@ returns-clause-others g c = λ k none. c.loop-place.invariant.others k none
 
 pub returns-clause-links : goal.returns-clause-links
 returns-clause-links g c = λ way k. c.loop-place.invariant.links way k
+
+pub returns-clause-mates : goal.returns-clause-mates
+returns-clause-mates g c = λ k. c.loop-place.invariant.mates k
 
 pub returns-clause-table : goal.returns-clause-table
 returns-clause-table g c = c.loop-place.invariant.table

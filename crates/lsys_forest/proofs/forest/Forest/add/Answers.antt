@@ -17,6 +17,7 @@ use Rattle.lsys_forest.specs.Answers.{answer_of}
 use Rattle.std.specs.Option.{option_and_then}
 use Rattle.lsys_forest.specs.Changes.{Missing}
 use Rattle.lsys_forest.proofs.LinkLemmas.{add_linked}
+use Rattle.lsys_forest.proofs.MatedLemmas.{add_mated}
 use Rattle.lsys_forest.proofs.forest.Forest.add.Goals as goal
 
 pub overflow_add-depth : goal.overflow_add-depth
@@ -48,6 +49,7 @@ invariant_of-self g c =
       grove = IsGrove-add i.parts c.insert.new.self i.root i.spare_nodes (i.spare_nodes - 1) i.spare_notes (i.spare_notes - 1) c.insert.result n s.0 (list_room (params_in c.args.symbol.now)) 0 c.insert.ensures.vacant s.1 depth refl c.insert.ensures.few c.insert.ensures.added (omega (arith, asked.1)) (omega (arith, asked.2)) c.self.invariant.grove;
       ranked = add_ranked i.root i.parts c.insert.new.self c.insert.result n (list_room (params_in c.args.symbol.now)) 0 (sound_now c.self.invariant.grove) refl c.insert.ensures.added c.self.invariant.ranked;
       linked = add_linked i.root i.parts c.insert.new.self c.insert.result i.linked n (list_room (params_in c.args.symbol.now)) 0 (sound_now c.self.invariant.grove) c.insert.ensures.vacant refl c.insert.ensures.added c.self.invariant.linked;
+      mated = add_mated i.root i.parts c.insert.new.self c.insert.result i.mated n (list_room (params_in c.args.symbol.now)) 0 (sound_now c.self.invariant.grove) c.insert.ensures.vacant refl c.insert.ensures.added c.self.invariant.mated;
     }
 
 pub returns-clause-added : goal.returns-clause-added

@@ -8,6 +8,7 @@ use Rattle.lsys_forest.proofs.SweepLemmas.{IsSound-swept, all_reached, reached_s
 use Rattle.lsys_forest.proofs.GroveLemmas.{sound_now, IsGrove-rest}
 use Rattle.lsys_forest.proofs.AnswerLemmas.{frees_by}
 use Rattle.lsys_forest.proofs.LinkLemmas.{swept_linked}
+use Rattle.lsys_forest.proofs.MatedLemmas.{swept_mated}
 use Rattle.lsys_forest.proofs.forest.Forest.commit.Goals as goal
 
 pub sweep_all-requires-clause-made : goal.sweep_all-requires-clause-made
@@ -25,6 +26,7 @@ invariant_of-self g c =
       grove = IsGrove-rest i.parts c.sweep_all.new.parts i.root i.spare_nodes i.spare_notes sound e.empty e.short e.live e.room c.self.invariant.grove;
       ranked = e.ranked;
       linked = swept_linked i.root (nodes_of i.parts) (nodes_of c.sweep_all.new.parts) i.parts.footings c.sweep_all.new.parts.footings i.linked sound (left_stood (nodes_of i.parts) i.root (nodes_of c.sweep_all.new.parts) e.swept) e.footings c.self.invariant.linked;
+      mated = swept_mated i.root (nodes_of i.parts) (nodes_of c.sweep_all.new.parts) i.parts.footings c.sweep_all.new.parts.footings i.mated sound (left_stood (nodes_of i.parts) i.root (nodes_of c.sweep_all.new.parts) e.swept) e.footings c.self.invariant.mated;
     }
 
 pub returns-clause-stay : goal.returns-clause-stay

@@ -23,6 +23,7 @@ invariant_of-result g c =
       };
       ranked = ranked_root (nodes_of p) p.footings e.nodes;
       linked = λ t k way before after less whole. absurd (omega (arith, less));
+      mated = λ t less. absurd (omega (arith, less));
     }
 
 pub returns-clause-root : goal.returns-clause-root

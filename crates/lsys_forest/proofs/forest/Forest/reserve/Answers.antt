@@ -5,6 +5,7 @@ use Rattle.lsys_forest.specs.Nodes.{Nodes}
 use Rattle.lsys_forest.specs.Changes.{undone}
 use Rattle.lsys_forest.specs.Stocks.{Stock, nodes_of, changes_of}
 use Rattle.lsys_forest.specs.Ranks.{AreRanked, AreLinked}
+use Rattle.lsys_forest.specs.Pairs.{AreMated}
 use Rattle.lsys_forest.specs.Groves.{Grove, live_nodes, rest_of, IsGrove, KeepsSpares}
 use Rattle.lsys_forest.proofs.GroveLemmas.{IsGrove-room}
 use Rattle.lsys_forest.proofs.forest.Forest.reserve.Goals.{then-room-nodes, else-room-nodes}
@@ -19,6 +20,7 @@ invariant_of-self g c =
       grove = IsGrove-room i.parts c.reserve.new.self i.root i.spare_nodes i.spare_notes i.spare_nodes i.spare_notes e.nodes e.changes e.notes e.live (omega (arith, e.live, e.keeps.capacity, grove.nodes_left)) (omega (arith, e.live, grove.numbers)) (λ some. (let f = grove.fit some in omega (arith, f, e.keeps.capacity))) (omega (arith, e.live, e.notes, e.keeps.places, grove.places_left)) grove;
       ranked = subst (λ (m : Nodes g.row.A.Denot). AreRanked m c.reserve.new.self.footings) (sym e.nodes) (subst (AreRanked (nodes_of i.parts)) (sym e.footings) c.self.invariant.ranked);
       linked = subst (λ (m : Nodes g.row.A.Denot). AreLinked m i.root c.reserve.new.self.footings i.linked) (sym e.nodes) (subst (λ fs. AreLinked (nodes_of i.parts) i.root fs i.linked) (sym e.footings) c.self.invariant.linked);
+      mated = subst (λ (m : Nodes g.row.A.Denot). AreMated m i.root c.reserve.new.self.footings i.mated) (sym e.nodes) (subst (λ fs. AreMated (nodes_of i.parts) i.root fs i.mated) (sym e.footings) c.self.invariant.mated);
     }
 
 pub invariant_of-self-2 : goal.invariant_of-self-2
@@ -39,6 +41,7 @@ invariant_of-self-2 g c =
           (omega (arith, live, e.live, r.room)) (omega (arith, live, e.live, r.most, asked, grove.numbers)) r.fit (omega (arith, live, notes, places, more.places, more.fits, r.most, c.max-spare_nodes.ensures, c.saturating_add-places.ensures, c.live.ensures, e.notes)) was;
       ranked = subst (λ (t : Stock g.row.A.Denot). AreRanked (nodes_of t) t.footings) (sym r.same) (subst (λ (m : Nodes g.row.A.Denot). AreRanked m c.reserve.new.self.footings) (sym e.nodes) (subst (AreRanked (nodes_of i.parts)) (sym e.footings) c.self.invariant.ranked));
       linked = subst (λ (t : Stock g.row.A.Denot). AreLinked (nodes_of t) i.root t.footings i.linked) (sym r.same) (subst (λ (m : Nodes g.row.A.Denot). AreLinked m i.root c.reserve.new.self.footings i.linked) (sym e.nodes) (subst (λ fs. AreLinked (nodes_of i.parts) i.root fs i.linked) (sym e.footings) c.self.invariant.linked));
+      mated = subst (λ (t : Stock g.row.A.Denot). AreMated (nodes_of t) i.root t.footings i.mated) (sym r.same) (subst (λ (m : Nodes g.row.A.Denot). AreMated m i.root c.reserve.new.self.footings i.mated) (sym e.nodes) (subst (λ fs. AreMated (nodes_of i.parts) i.root fs i.mated) (sym e.footings) c.self.invariant.mated));
     }
 
 pub returns-clause-now : goal.returns-clause-now

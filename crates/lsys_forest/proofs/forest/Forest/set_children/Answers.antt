@@ -14,6 +14,8 @@ use Rattle.lsys_forest.proofs.AnswerLemmas.{kept_stay}
 use Rattle.lsys_forest.specs.Answers.{answer_of, answers}
 use Rattle.std.specs.Option.{option_and_then}
 use Rattle.lsys_forest.proofs.LinkLemmas.{kids_linked}
+use Rattle.lsys_forest.proofs.MatedLemmas.{kids_mated}
+use Rattle.lsys_forest.specs.Pairs.{AreMated}
 use Rattle.lsys_forest.specs.Rows.{depth_in}
 use Rattle.lsys_forest.proofs.forest.Forest.set_children.Goals as goal
 
@@ -39,13 +41,15 @@ invariant_of-self g c =
     let n = with_kids c.args.kids.now s.0 in
     let footings = c.rerank.new.self.footings in
     let old = c.set_kids.new.self in
-    let high : c.depth.result ≡ depth_in (nodes_of old c.args.node) = c.depth.ensures ∙ ap (λ (t : Stock g.row.A.Denot). depth_in (nodes_of t c.args.node)) e.same in
+    let high : c.depth-depth.result ≡ depth_in (nodes_of old c.args.node) = c.depth-depth.ensures ∙ ap (λ (t : Stock g.row.A.Denot). depth_in (nodes_of t c.args.node)) e.same in
     let now : IsGrove (record old { footings = footings }) i.root i.spare_nodes (i.spare_notes - 1) = record { sound = grove.sound; nodes_left = grove.nodes_left; numbers = grove.numbers; fit = grove.fit; places_left = grove.places_left } in
     record {
       grove = subst (λ (t : Stock g.row.A.Denot). IsGrove t i.root i.spare_nodes (i.spare_notes - 1)) (sym e.same) now;
       ranked = subst (λ (t : Stock g.row.A.Denot). AreRanked (nodes_of t) footings) (sym e.same) (kids_ranked i.root i.parts old footings c.args.node n _ 0 (list_room c.args.kids.now) (sound_now c.self.invariant.grove) j c.self.invariant.ranked e.ranked);
       linked = subst (λ (t : Stock g.row.A.Denot). AreLinked (nodes_of t) i.root footings c.min-self-inside.result) (sym e.same)
           (kids_linked i.root (changes_of old) i.parts old footings c.args.node i.linked c.min-self-inside.result s.0 n _ 0 (list_room c.args.kids.now) (sound_now grove) s.1 j e.links (omega (arith, c.min-self-inside.ensures)) (omega (arith, c.min-self-inside.ensures, high)) c.self.invariant.linked);
+      mated = subst (λ (t : Stock g.row.A.Denot). AreMated (nodes_of t) i.root footings c.min-self-inside-2.result) (sym e.same)
+          (kids_mated i.root (changes_of old) i.parts old footings c.args.node i.mated c.min-self-inside-2.result s.0 n _ 0 (list_room c.args.kids.now) (sound_now grove) s.1 refl j e.mates (omega (arith, c.min-self-inside-2.ensures)) (omega (arith, c.min-self-inside-2.ensures, high)) c.self.invariant.mated);
     }
 
 pub returns-clause-set : goal.returns-clause-set

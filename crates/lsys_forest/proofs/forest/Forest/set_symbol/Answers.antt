@@ -1,9 +1,12 @@
-use Rattle.std.proofs.Common.{◌≡◌, ◌<◌, ◌-◌, Some, refl, sym, subst, arith, ap}
+use Rattle.std.proofs.Common.{◌≡◌, ◌∙◌, ◌⊎◌, ◌≤◌, ◌<◌, ◌-◌, Some, refl, sym, subst, arith, ap}
 use Rattle.std.specs.Prelude.{IsSome}
 use Rattle.lsys_level.specs.Places.{seen_in, params_in}
 use Rattle.lsys_region.specs.Rooms.{list_room}
-use Rattle.lsys_forest.specs.Nodes.{Node, with_seen}
-use Rattle.lsys_forest.specs.Stocks.{nodes_of, changes_of}
+use Rattle.lsys_forest.specs.Nodes.{Node, seen_as, with_seen}
+use Rattle.lsys_forest.specs.Stocks.{nodes_of, changes_of, row_at}
+use Rattle.lsys_forest.specs.Rows.{depth_in}
+use Rattle.lsys_forest.specs.Pairs.{AreSameSort}
+use Rattle.lsys_forest.proofs.StockLemmas.{stored_of}
 use Rattle.lsys_forest.specs.Groves.{Grove, now_of, Sets, Spends, kept_in}
 use Rattle.lsys_forest.proofs.SoundLemmas.{some_of, set_seen}
 use Rattle.lsys_forest.proofs.RankLemmas.{set_ranked}
@@ -13,7 +16,11 @@ use Rattle.lsys_forest.specs.Answers.{answer_of}
 use Rattle.std.specs.Option.{option_and_then}
 use Rattle.lsys_forest.specs.Changes.{OldSeen}
 use Rattle.lsys_forest.proofs.LinkLemmas.{set_linked}
+use Rattle.lsys_forest.proofs.MatedLemmas.{set_mated}
 use Rattle.lsys_forest.proofs.forest.Forest.set_symbol.Goals as goal
+
+pub kind-kind-requires : goal.kind-kind-requires
+kind-kind-requires g c = subst (λ (f : Grove g.row.A.Denot). IsSome (now_of f c.args.node)) (sym c.self.view_is) c.requires.lives
 
 pub invariant_of-self : goal.invariant_of-self
 invariant_of-self g c =
@@ -21,11 +28,19 @@ invariant_of-self g c =
     let asked = subst (λ (f : Grove g.row.A.Denot). IsSome (now_of f c.args.node) × (0 < f.spare_notes)) (sym c.self.view_is) (c.requires.lives, c.requires.notes) in
     let s = some_of (nodes_of i.parts c.args.node) asked.0 in
     let j = c.set_symbol.ensures.set s.0 s.1 in
+    let k = c.args.node in
+    let stored = stored_of i.parts.slots i.parts.params i.parts.kids k s.0 s.1 in
+    let seen : s.0.seen ≡ seen_as c.kind-kind.result (row_at i.parts.params k) = sym (ap (λ (x : Node g.row.A.Denot). x.seen) stored.2) ∙ ap (λ y. seen_as y (row_at i.parts.params k)) (sym (c.kind-kind.ensures stored.0 stored.1)) in
+    let depth : c.depth-depth.result ≡ s.0.depth = c.depth-depth.ensures ∙ ap depth_in s.1 in
+    let sort : AreSameSort s.0.seen (seen_in c.args.symbol.now) ⊎ (c.mated_still-self-inside.result ≤ s.0.depth - 1) =
+    subst (λ d. AreSameSort s.0.seen (seen_in c.args.symbol.now) ⊎ (c.mated_still-self-inside.result ≤ d - 1)) depth
+    (subst (λ z. AreSameSort z (seen_in c.args.symbol.now) ⊎ (c.mated_still-self-inside.result ≤ c.depth-depth.result - 1)) (sym seen) (c.mated_still-self-inside.ensures.sort (row_at i.parts.params k))) in
     let grove = IsGrove-set i.parts c.set_symbol.new.self i.root i.spare_nodes i.spare_notes (i.spare_notes - 1) c.args.node s.0 (with_seen (seen_in c.args.symbol.now) s.0) _ (list_room (params_in c.args.symbol.now)) 0 (set_seen i.root (changes_of i.parts) (nodes_of i.parts) c.args.node s.0 (seen_in c.args.symbol.now) c.set_symbol.ensures.few (sound_now c.self.invariant.grove) s.1) (c.set_symbol.ensures.set s.0 s.1) (omega (arith, asked.1)) c.self.invariant.grove in
     record {
       grove = grove;
       ranked = set_ranked i.root i.parts c.set_symbol.new.self c.args.node s.0 (with_seen (seen_in c.args.symbol.now) s.0) _ (list_room (params_in c.args.symbol.now)) 0 (sound_now c.self.invariant.grove) s.1 refl j c.self.invariant.ranked;
       linked = set_linked i.root (changes_of c.set_symbol.new.self) i.parts c.set_symbol.new.self c.args.node i.linked s.0 (with_seen (seen_in c.args.symbol.now) s.0) _ (list_room (params_in c.args.symbol.now)) 0 (sound_now grove) s.1 refl j c.self.invariant.linked;
+      mated = set_mated i.root (changes_of c.set_symbol.new.self) i.parts c.set_symbol.new.self c.args.node i.mated c.mated_still-self-inside.result s.0 (with_seen (seen_in c.args.symbol.now) s.0) _ (list_room (params_in c.args.symbol.now)) 0 (sound_now grove) s.1 refl sort j c.mated_still-self-inside.ensures.fewer c.self.invariant.mated;
     }
 
 pub returns-clause-set : goal.returns-clause-set
