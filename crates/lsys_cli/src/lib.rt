@@ -19,6 +19,7 @@ use lsys_io::{Sink, Source};
 use lsys_match::Steps;
 use lsys_pass::ForestDerivation;
 use lsys_words::options_of;
+pub use lsys_words::sample;
 use script::run_by;
 pub use status::Status;
 use std::alloc::Global;

@@ -163,7 +163,8 @@ fn take_first<A: Kept>(
 }
 
 /// Makes the children of the root of a forest those of the axiom of a system, where these are no more than the limit, and
-/// tells what differs.
+/// tells what differs. Then their level is linked: it is gone along whole here in any case, and by links a bracket of the axiom
+/// finds its mate in one look, so brackets in brackets cost no square.
 ///
 /// # Errors
 ///
@@ -196,6 +197,7 @@ fn make_first_nodes<L: Ledger>(
         return Err(refusal);
     }
     let told = make_counted(alloc, forest, system, &count.need, wanted, brood)?;
+    forest.link(0);
     Ok(told)
 }
 

@@ -184,7 +184,7 @@ fn take_next<L: Ledger>(
 /// Whether so many nodes of a level are looked at that it pays to link it. A level is walked along where it is asked and was not,
 /// or was asked and is not, or has other rules than at the last rest. And each of so many nodes of the level above, which have
 /// other children or other neighbours, may lead to climbs that take as many steps as there are levels, there and back. It costs
-/// steps by the number of levels, and of rules.
+/// steps by the number of levels, and of rules. The choice is free: whichever it is, the forest tells the same.
 ///
 /// # Errors
 ///
@@ -209,7 +209,7 @@ fn is_busy(
     Ok(!have_same_rules(alloc, old, new, level)?)
 }
 
-/// Whether a level has the same rules by two systems. It costs steps by their number.
+/// Whether a level has the same rules by two systems, for that choice. It costs steps by their number.
 ///
 /// # Errors
 ///
@@ -224,12 +224,12 @@ fn have_same_rules(
     rules.are_all_alike()
 }
 
-/// How many nodes of a level have other children, or turned: these parents, and those that its front tells.
+/// How many nodes of a level have other children, or turned, for that choice: these parents, and those that its front tells.
 fn many_above(parents: &[Parent], front: &Front) -> usize {
     parents.len().saturating_add(front.turned.len())
 }
 
-/// How many symbols the levels have that were made, and a next one of so many.
+/// How many symbols the levels have that were made, and a next one of so many, for that choice.
 fn total_with(sizes: &Sizes, symbols: usize) -> usize {
     let mut total = symbols;
     for size in &sizes.made {

@@ -30,6 +30,7 @@ mod work;
 
 pub use derivation::{ForestDerivation, Held};
 pub use fault::Faulted;
+pub use lsys_kept::KeptAnswer;
 pub use pass::Pass;
 pub use sizes::Size;
 pub use state::PassState;
