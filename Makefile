@@ -1,6 +1,6 @@
 # make help lists what there is. The times are of one processor; where other work is done on the machine, by the clock they are more.
 PREFIX ?= /usr/local
-# Of `make look`, whether a person named a script.
+# Of `make look` and `make repl`, whether a person named a script.
 LOOK_ORIGIN := $(if $(filter undefined,$(origin SCRIPT)),file,named)
 SCRIPT ?= examples/plant_b.lsys
 # Where Inkscape looks, if it is here.
@@ -13,19 +13,21 @@ export SCRIPT
 bin/lsys: $(shell find crates -name '*.rt' -path '*/src/*') $(shell find crates -name '*.antt' -not -path '*/out/*') crates.txt | python3
 	@tools/prove
 
-.PHONY: help python3 run look gallery check test dist install
+.PHONY: help python3 run look repl gallery test check gate prove dist install
 
 help:
-	@echo 'make run [SCRIPT=path]   runs a script, examples/plant_b.lsys by default, and puts its pictures into build/pictures:'
-	@echo '                         2 minutes of one processor where a program has to be built, then at once'
+	@echo 'make run [SCRIPT=path]   runs a script, examples/plant_b.lsys by default, and puts its pictures beside it (those of examples/'
+	@echo '                         into build/pictures): 5 to 7 minutes of one processor where a program has to be built, then at once'
 	@echo 'make look [SCRIPT=path]  opens a script in a browser, to be edited beside its picture; without SCRIPT a gallery to begin from'
+	@echo 'make repl [SCRIPT=path]  answers lines on the terminal, as they are typed'
+	@echo 'make test                the tests for between commits, without a proof: some minutes (make check is the same)'
 	@echo 'make                     proves the program and builds it as bin/lsys, and says how far it is: an hour from nothing, after a'
 	@echo '                         change what stands on it'
+	@echo 'make gate                the whole gate, as .ci/run: some 5.5 hours of one processor from nothing (make prove is the same)'
 	@echo 'make gallery             draws all scripts of examples/ with the proved program on one page, gallery/index.html'
-	@echo 'make check               the tests for between commits, without a proof: some minutes'
-	@echo 'make test                the whole gate, as .ci/run: some 5.5 hours of one processor from nothing'
 	@echo 'make dist                packs the proved program for people without the toolchain: build/$(PACKED).tar.gz and .deb'
-	@echo 'make install [PREFIX=..] installs the program, the manual page and the extension for Inkscape'
+	@echo 'make install [PREFIX=..] installs what the package has: lsys, lsys-run, lsys-repl, lsys-look, lsys-export, the manual page,'
+	@echo '                         the extension for Inkscape and the syntax files'
 	@echo 'make help                this list'
 
 python3:
@@ -37,20 +39,20 @@ run: python3
 look: python3
 	@tools/look $(if $(filter file,$(LOOK_ORIGIN)),,"$$SCRIPT")
 
+repl: python3
+	@tools/repl $(if $(filter file,$(LOOK_ORIGIN)),,"$$SCRIPT")
+
 gallery: bin/lsys
 	@tools/gallery --program bin/lsys
 
-check: python3
+test check: python3
 	@tools/check
 
-test:
+gate prove:
 	.ci/run
 
 dist: bin/lsys
 	@tools/dist --program bin/lsys
 
 install: bin/lsys
-	install -d "$(DESTDIR)$(PREFIX)/bin" "$(DESTDIR)$(PREFIX)/share/man/man1" "$(DESTDIR)$(INKSCAPE_EXTENSIONS)/lsys"
-	install bin/lsys "$(DESTDIR)$(PREFIX)/bin/lsys"
-	install -m 644 docs/lsys.1 "$(DESTDIR)$(PREFIX)/share/man/man1/lsys.1"
-	install -m 644 tools/figure.py tools/replies.py tools/inkscape/lsys.inx tools/inkscape/lsys_inkscape.py "$(DESTDIR)$(INKSCAPE_EXTENSIONS)/lsys"
+	@tools/dist --program bin/lsys --install "$(PREFIX)" --root "$(DESTDIR)" --inkscape "$(INKSCAPE_EXTENSIONS)"

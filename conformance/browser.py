@@ -16,9 +16,7 @@ ELEMENT = "element-6066-11e4-a52e-4f735466cecf"
 
 
 def is_there():
-    """Whether there is a driver; it is installed where this process may."""
-    if not shutil.which("chromedriver") and os.geteuid() == 0 and shutil.which("apt-get"):
-        subprocess.run(["apt-get", "install", "-y", "--no-install-recommends", "chromium-driver"], stdout=subprocess.DEVNULL, stderr=subprocess.DEVNULL)
+    """Whether there is a driver. Nothing is installed."""
     return bool(shutil.which("chromedriver"))
 
 
@@ -56,6 +54,10 @@ class Browser:
                 return json.load(answer)["value"]
         except urllib.error.HTTPError as error:
             raise RuntimeError(json.load(error)["value"]["message"].split("\n")[0]) from None
+
+    def cookies(self):
+        """The page's cookies, as a request has them."""
+        return "; ".join("%s=%s" % (cookie["name"], cookie["value"]) for cookie in self.call("/cookie"))
 
     def open(self, address):
         self.call("/url", {"url": address})

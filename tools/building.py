@@ -14,12 +14,14 @@ import time
 
 sys.dont_write_bytecode = True
 from processes import below, spent
-from telling import give_up, say
+from telling import Passing, give_up, say
 
 NO_TOOLCHAIN = "there is no rt in PATH, which builds the program: README.md, 'Building it', tells what it is, and of the program ready built"
 # The clang call that makes machine code of the file module.bc, without optimization: these words are taken out, and one is added.
 UNWATCHED = ("-O0", "-fsanitize=address")
 OPTIMIZED = "-O1"
+# What is done, one after another.
+STAGES = ["the sources are being read", "a slow program is being linked", "the same code is being made fast"]
 SMALL_SCRIPT = b"""axiom A(3)[+F]%B
 production p: A(x) < B : x > 2 => [A(x-1)]B
 production q: A(x) @ 2 => A(x*2-1)F
@@ -36,15 +38,25 @@ axiom $
 
 
 class Stages:
-    """Tells each stage of a build as it ends, with the seconds of one processor that it took."""
+    """Tells each stage of a build as it ends, with the seconds of one processor that it took, and meanwhile the seconds that have passed."""
 
     def __init__(self):
         self.told = self.begun = spent(below(os.getpid()))
+        self.passing = Passing(STAGES[0])
+
+    def __enter__(self):
+        self.passing.__enter__()
+        return self
+
+    def __exit__(self, *_):
+        self.passing.__exit__()
 
     def tell(self, what):
         now = spent(below(os.getpid()))
+        self.passing.clear()
         say("  %2d s of one processor: %s" % (round(now - self.told), what))
         self.told = now
+        self.passing.what = STAGES[min(STAGES.index(self.passing.what) + 1, len(STAGES) - 1)]
 
     def all(self):
         return spent(below(os.getpid())) - self.begun
@@ -155,16 +167,17 @@ def build_without_proofs(crate, folder):
     work, kept = os.path.join(folder, "work"), os.path.join(folder, "kept")
     os.mkdir(work)
     os.mkdir(kept)
-    keeper = Keeper(work, kept, Stages())
-    keeper.start()
-    try:
-        status, said = try_crate(crate, work)
-    finally:
-        keeper.ended.set()
-        keeper.join()
-    program = keeper.at("program")
-    if status or not os.path.exists(program):
-        sys.stderr.write(said)
-        give_up("no program was built: rt try ended with status %d, and said what stands above" % status, status or 1)
-    fast = make_fast(keeper)
-    return fast or program, bool(fast)
+    with Stages() as stages:
+        keeper = Keeper(work, kept, stages)
+        keeper.start()
+        try:
+            status, said = try_crate(crate, work)
+        finally:
+            keeper.ended.set()
+            keeper.join()
+        program = keeper.at("program")
+        if status or not os.path.exists(program):
+            sys.stderr.write(said)
+            give_up("no program was built: rt try ended with status %d, and said what stands above" % status, status or 1)
+        fast = make_fast(keeper)
+        return fast or program, bool(fast)

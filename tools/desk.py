@@ -5,17 +5,22 @@ import secrets
 import subprocess
 import tempfile
 import threading
+import time
 
 from figure import KINDS, Figure, joined
+from hints import LIMIT, MOST_LIMIT, hint
 from programs import TOP
 from replies import lines_of
 from session import Ended, as_reply, commands_before_end, is_query, key_of
+from texts import MARK_TOLD, without_mark
 
 EXAMPLES = os.path.join(TOP, "examples")
 LONGEST_SCRIPT = 16777216
 # Replies that are shown beside their lines; of a longer script the first ones, and the refusals.
 MOST_REPLIES = 5000
 MOST_PICTURES = 100
+# So many refusals are explained, and so many explanations are kept for the next change.
+MOST_HINTS, MOST_KEPT_HINTS = 100, 1000
 LONGEST_LEVEL = 20000
 # Texts of which it is known what they belonged to.
 MOST_LEFT = 20
@@ -78,11 +83,19 @@ class Script:
     def __init__(self, path=None):
         self.path, self.name, self.number = path, os.path.basename(path) if path else "", 0
         self.on_disk, self.other, self.seen, self.ends, self.opened = None, None, None, "\n", b""
-        self.lines, self.left = [""], {}
+        self.lines, self.left, self.had_mark = [""], {}, False
         if path:
             self.seen = self.sign()
-            self.on_disk = read(path) or b""
-            self.put(self.on_disk)
+            self.on_disk = None if self.seen is None else self.read_file() or b""
+            self.put(self.on_disk or b"")
+
+    def read_file(self):
+        """What the file has, but for a mark at its head; None where it can't be read now."""
+        data = read(self.path)
+        if data is None:
+            return None
+        data, self.had_mark = without_mark(data)
+        return data
 
     def put(self, data):
         """Takes these bytes for the text. Line ends of two bytes are kept apart from it, since a page has one kind alone."""
@@ -146,7 +159,7 @@ class Script:
         sign = self.sign() if self.path else None
         if sign is None or sign == self.seen:
             return None
-        data = read(self.path)
+        data = self.read_file()
         if data is None:
             return None
         self.seen = sign
@@ -155,7 +168,7 @@ class Script:
         if data == self.data():
             self.on_disk, self.other = data, None
             return "same"
-        if self.is_saved():
+        if self.is_saved() or self.on_disk is None and self.data() == b"":
             self.on_disk, self.other = data, None
             self.put(data)
             return "taken"
@@ -172,17 +185,30 @@ class Script:
 class Desk:
     """What all pages see, numbered by `turn` so that a page can wait for the next one."""
 
-    def __init__(self, session, path=None):
+    def __init__(self, session, path=None, begins=True):
         self.session, self.script = session, Script(path)
         self.changed = threading.Condition()
-        self.turn, self.stopping, self.sign = 0, False, secrets.token_hex(8)
+        self.stopped, self.is_cancelled = None, False
+        self.turn, self.stopping, self.sign, self.last_asked = 0, False, secrets.token_hex(8), b""
         self.how, self.notice, self.places, self.counts = "", [0, ""], [], None
+        self.hinted, self.kept_hints = [], {}
+        if begins:
+            self.begin()
+
+    def begin(self):
+        """Brings the program to the script for the first time."""
         with self.changed:
             self.follow()
+            self.say_of_mark()
 
     def say(self, word):
         """A word that each page shows once."""
         self.notice = [self.notice[0] + 1, word]
+
+    def say_of_mark(self):
+        if self.script.had_mark:
+            told = MARK_TOLD % self.script.name
+            self.say(told[0].upper() + told[1:] + ".")
 
     def tell(self):
         self.turn += 1
@@ -193,20 +219,86 @@ class Desk:
         found = commands_before_end(lines_of(as_bytes("\n".join(self.script.lines))))
         self.places = [place for place, _ in found]
         commands = [line for _, line in found]
+        self.stopped = None
         for _ in range(2):
             try:
                 self.how = self.session.follow(commands)
                 break
             except Ended:
+                asked = self.last_asked
                 self.session.close()
                 if self.stopping:
+                    break
+                if self.take_cancel():
+                    self.stop_before(commands, asked)
                     break
                 self.say("The program had ended. It was started again with the script.")
         else:
             place = self.places[min(len(self.session.replies), len(commands) - 1)] + 1 if commands else 1
             self.say("The program ended at line %d, and once more when it was started again. The next change tries it anew." % place)
         self.counts = counts(self.session.sent) or self.counts
+        self.hinted = self.hints()
         self.tell()
+
+    def take_cancel(self):
+        """Whether a person stopped what was being worked out; that is known once."""
+        was, self.is_cancelled = self.is_cancelled, False
+        return was
+
+    def busy(self):
+        """What is being worked out, and for how long; asked without waiting for it."""
+        asking = self.session.asking()
+        return {"line": as_text(asking[0])[:200], "seconds": time.monotonic() - asking[1]} if asking else {"line": "", "seconds": 0}
+
+    def cancel(self):
+        """Stops what is being worked out. Who waits for it goes on with what was answered before."""
+        asking = self.session.asking()
+        if asking:
+            self.is_cancelled, self.last_asked = True, asking[0]
+            self.session.interrupt()
+        return {"line": as_text(asking[0])[:200] if asking else ""}
+
+    def stop_before(self, commands, asked):
+        """Leaves the session at the lines before the one that was stopped, of which a program is begun anew in the background."""
+        answered, told = len(self.session.replies), self.session.told
+        is_in_turn = self.session.commands == commands and commands[answered:answered + 1] == [asked]
+        found = [answered] if is_in_turn else [number for number, line in enumerate(commands) if line == asked] or [max(0, min(answered, len(commands) - 1))]
+        self.session.commands = commands[:found[-1]]
+        self.session.replies = [told.get(key_of(line), "") if not is_query(line) else "" for line in self.session.commands]
+        self.stopped = [self.places[found[-1]] if commands else 0, as_text(asked)[:200]]
+        threading.Thread(target=self.begin_again, args=(self.script.number,), daemon=True).start()
+
+    def begin_again(self, number):
+        """Starts the program with the lines before the one that was stopped, unless the script is another one by now."""
+        with self.changed:
+            if self.stopped is None or number != self.script.number or self.stopping:
+                return
+            try:
+                self.session.from_the_beginning(self.session.commands)
+            except Ended:
+                self.session.close()
+                self.take_cancel()
+            self.hinted = self.hints()
+            self.tell()
+
+    def hints(self):
+        """What helps where a line is refused: its place, the words, and the line that was meant or None."""
+        taken, told = [], []
+        for place, line, reply in zip(self.places, self.session.commands, self.session.replies):
+            if reply.startswith("ok "):
+                taken.append(line)
+            elif reply.startswith("refused ") and len(told) < MOST_HINTS:
+                told.append([place, *self.hint(line, reply, taken)])
+        return told
+
+    def hint(self, line, reply, taken):
+        key = line, reply, self.limit(), hash(tuple(taken))
+        if key not in self.kept_hints:
+            found = hint(line, reply, taken, self.limit(), "page", self.session.words)
+            self.kept_hints[key] = found.told, found.meant
+            while len(self.kept_hints) > MOST_KEPT_HINTS:
+                del self.kept_hints[next(iter(self.kept_hints))]
+        return self.kept_hints[key]
 
     def look_around(self):
         """Looks whether the file was changed, and whether the program is still there."""
@@ -214,7 +306,8 @@ class Desk:
             what = self.script.look_at_file()
             if what == "taken":
                 self.say("Another program changed the file. Its text was taken over.")
-            if what == "taken" or self.session.program and self.session.program.has_ended():
+                self.say_of_mark()
+            if what == "taken" or self.session.program and self.session.program.has_ended() and not self.is_cancelled:
                 self.follow()
             elif what:
                 self.tell()
@@ -233,10 +326,10 @@ class Desk:
         told = replies[:MOST_REPLIES] + [pair for pair in replies[MOST_REPLIES:] if pair[1].startswith("refused ")][:MOST_REPLIES]
         state = {"desk": self.sign, "turn": self.turn, "text": script.number, "name": script.name, "path": script.path, "saved": script.is_saved(), "kept": script.is_kept(),
                  "asked": script.other is not None, "how": self.how, "sent": [[line[:200], reply] for line, reply in session.sent[-20:]],
-                 "counts": self.counts, "replies": told, "left_out": len(replies) - len(told), "refused": len(refused),
+                 "counts": self.counts, "replies": told, "hints": self.hinted, "left_out": len(replies) - len(told), "refused": len(refused),
                  "depth": session.depth(), "lattice": session.lattice(), "notice": self.notice, "running": session.program is not None,
                  "pictures": [self.places[place] for place in sorted(session.pictures)[-MOST_PICTURES:] if place < len(self.places)],
-                 "size": sum(map(len, script.lines)) + len(script.lines) - 1}
+                 "size": sum(map(len, script.lines)) + len(script.lines) - 1, "limit": self.limit(), "stopped": self.stopped}
         if text != script.number:
             state["script"] = "\n".join(script.lines)
         return state
@@ -260,9 +353,28 @@ class Desk:
             data = as_bytes(asked["script"]) if "script" in asked else read(example(name))
             if data is None or len(data) > LONGEST_SCRIPT:
                 raise Wrong("there is no such script", 404)
+            data, self.script.had_mark = without_mark(data)
             self.script.open(data, os.path.basename(name))
             self.follow()
+            self.say_of_mark()
             return self.state()
+
+    def limit(self):
+        """How many symbols all levels may have together."""
+        words = self.session.words
+        found = [word.partition("=")[2] or words[place + 1] for place, word in enumerate(words) if re.match("--limit(=|$)", word)]
+        return int(found[0]) if found else LIMIT
+
+    def set_limit(self, asked):
+        """Begins the program anew with another limit."""
+        limit = asked["limit"]
+        if not isinstance(limit, int) or isinstance(limit, bool) or not 1 <= limit <= MOST_LIMIT:
+            raise Wrong("a limit is a whole number from 1 to {:,}".format(MOST_LIMIT), 400)
+        with self.changed:
+            self.session.words = [self.session.words[0], "--limit", str(limit)]
+            self.session.close()
+            self.follow()
+            return self.state(self.script.number)
 
     def save(self, asked):
         """Writes the script into its file, or into another one of the folder in which the tool was started."""
@@ -321,6 +433,12 @@ class Desk:
                     return asked()
             except Ended:
                 self.session.close()
+                if self.take_cancel():
+                    self.stopped = [None, as_text(self.last_asked)]
+                    threading.Thread(target=self.begin_again, args=(self.script.number,), daemon=True).start()
+                    raise Wrong("this was stopped") from None
+            if self.stopped:
+                raise Wrong("what was asked before was stopped")
             self.follow()
         raise Wrong("the program doesn't run", 503)
 

@@ -1,5 +1,6 @@
 """The programs that this checkout has built, and whether they are newer than all that they were made from. Where there are tools and
 no sources, as where they are installed, the program that came with them."""
+import filecmp
 import os
 import shutil
 import subprocess
@@ -16,7 +17,7 @@ TOP = os.path.dirname(os.path.dirname(os.path.realpath(__file__)))
 PROVED = [os.path.join(TOP, "bin", "lsys"), os.path.join(TOP, "crates", "lsys", "out", "lsys")]
 UNPROVED = os.path.join(TOP, "build", "lsys-unproved")
 # Of an unproved build, as README.md and `make help` tell it.
-UNPROVED_COST = "2 minutes"
+UNPROVED_COST = "5 to 7 minutes"
 
 
 def is_checkout():
@@ -77,7 +78,7 @@ def build_unproved():
     """Builds the program without proofs and keeps it. Says what it costs, stage by stage."""
     if not shutil.which("rt"):
         give_up(NO_TOOLCHAIN, 127)
-    say("no built program is newer than the sources: building one without proofs, by estimate %s of one processor .." % UNPROVED_COST)
+    say("no built program is newer than the sources: building one without proofs, some %s of one processor .." % UNPROVED_COST)
     os.makedirs(os.path.dirname(UNPROVED), exist_ok=True)
     begun = time.time()
     with tempfile.TemporaryDirectory(prefix="unproved-", dir=os.path.dirname(UNPROVED)) as folder:
@@ -89,11 +90,18 @@ def build_unproved():
         say("this toolchain gave a slow program, some hundred times slower than the proved one, which make builds")
 
 
+def is_proved(program):
+    """Whether this is the program that `make` or the gate has proved, of these very sources."""
+    proved = fresh_proved() if is_checkout() else None
+    return proved is not None and filecmp.cmp(program, proved, shallow=False)
+
+
 def ready_program():
-    """The program that came with these tools, where no sources did; or one that is installed."""
-    beside = PROVED[0]
-    program = beside if os.access(beside, os.X_OK) else shutil.which("lsys")
-    return program or give_up("there is no program: neither %s nor lsys in PATH" % beside)
+    """The program that came with these tools, where no sources did: in bin/ beside them, or in bin/ of where they are installed; or one
+    in PATH."""
+    beside = [PROVED[0], os.path.join(os.path.dirname(os.path.dirname(TOP)), "bin", "lsys")]
+    program = next((path for path in beside if os.access(path, os.X_OK)), None) or shutil.which("lsys")
+    return program or give_up("there is no program: neither %s nor lsys in PATH" % beside[0])
 
 
 def fresh_program():

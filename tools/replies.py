@@ -102,7 +102,7 @@ def caret_inside(line, column):
     return [shown[:place] + "\N{CARET}" * bool(column) + shown[place:]]
 
 
-def refusal(number, line, reply, with_caret=caret_below):
-    """What is told of a refusal: the number of its line, the reply, the line and a caret at the column."""
-    told = ["line %d: %s" % (number, as_shown(reply.rstrip(b"\n")))]
+def refusal(number, line, reply, with_caret=caret_below, meaning=""):
+    """What is told of a refusal: the number of its line, the reply and what it means, the line and a caret at the column."""
+    told = ["line %d: %s" % (number, as_shown(reply.rstrip(b"\n"))) + (": " + meaning if meaning else "")]
     return "\n".join(told + ["    " + text for text in with_caret(line, column_of(reply))])

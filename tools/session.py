@@ -1,6 +1,7 @@
 """A running `lsys`, asked a line at a time, and how a session is brought to what a changed script says."""
 import re
 import subprocess
+import time
 
 from replies import LONGEST_LINE, Lines, is_command, reply_from
 
@@ -72,7 +73,7 @@ class Program:
 
     def __init__(self, words):
         self.running = subprocess.Popen(words, stdin=subprocess.PIPE, stdout=subprocess.PIPE)
-        self.lines = Lines(self.next_line)
+        self.lines, self.asking = Lines(self.next_line), None
 
     def next_line(self):
         line = self.running.stdout.readline()
@@ -81,7 +82,15 @@ class Program:
         return line
 
     def ask(self, line):
-        """Sends a command and gives its reply. Behind a growth one is sent whose reply is a refusal, by which the end is known."""
+        """Sends a command and gives its reply, with what is asked and since when told in `asking` meanwhile. Behind a growth one is sent whose
+        reply is a refusal, by which the end is known."""
+        self.asking = line, time.monotonic()
+        try:
+            return self.reply_to(line)
+        finally:
+            self.asking = None
+
+    def reply_to(self, line):
         probe = NO_COMMAND if is_growth(line) else b""
         try:
             self.running.stdin.write(line + b"\n" + probe)
@@ -137,8 +146,14 @@ class Session:
 
     def interrupt(self):
         """Ends the program whatever it does; who waits for its reply is told so."""
-        if self.program:
-            self.program.running.terminate()
+        program = self.program
+        if program:
+            program.running.kill()
+
+    def asking(self):
+        """The line that is being answered, and the moment from which on, or None."""
+        program = self.program
+        return program.asking if program else None
 
     def depth(self):
         """The depth of the system, whatever level is being looked at."""

@@ -4,10 +4,45 @@ import argparse
 import os
 import signal
 import sys
+import threading
+import time
+
+# Seconds between two lines of what takes long.
+PACE = 10
 
 
 def say(text):
     print("; " + text, file=sys.stderr, flush=True)
+
+
+class Passing:
+    """Tells while something is done what it is and how many seconds have passed, so that no minute is silent: on a terminal in one
+    line that is written anew, and else by a line from time to time. `what` may be changed meanwhile."""
+
+    def __init__(self, what, pace=PACE):
+        self.what, self.begun, self.ended = what, time.time(), threading.Event()
+        self.is_terminal = sys.stderr.isatty()
+        self.pace = 1 if self.is_terminal else pace
+        self.teller = threading.Thread(target=self.tell, daemon=True)
+
+    def __enter__(self):
+        self.teller.start()
+        return self
+
+    def tell(self):
+        while not self.ended.wait(self.pace):
+            text = ";   %d s so far: %s" % (time.time() - self.begun, self.what)
+            print(("\r%-99s" if self.is_terminal else "%s\n") % text, end="", file=sys.stderr, flush=True)
+
+    def clear(self):
+        """Makes room for another line."""
+        if self.is_terminal:
+            print("\r%-99s\r" % "", end="", file=sys.stderr, flush=True)
+
+    def __exit__(self, *_):
+        self.ended.set()
+        self.teller.join()
+        self.clear()
 
 
 def give_up(text, status=1):

@@ -27,6 +27,10 @@ COMMANDS = "axiom|production|drop|ignore|ignoring|consider|common|schedule|seed|
 LINE_END = re.compile(r"\\n(?=;|\\n|$|[ \t]*(?!at(?![ \t]+\d))(?:%s)(?![a-z]))" % COMMANDS)
 
 
+# What some editors put at the head of a file.
+MARK = "\ufeff"
+
+
 class Unable(Exception):
     """Nothing can be drawn; the words are for a person."""
 
@@ -90,9 +94,12 @@ class Draw(inkex.EffectExtension):
             return None
         try:
             with open(self.options.file, encoding="utf-8", errors="replace") as file:
-                return file.read()
+                script = file.read()
         except OSError as error:
             raise Unable("The script %s can't be read: %s" % (self.options.file, error.strerror)) from None
+        if script.startswith(MARK):
+            inkex.errormsg("A byte order mark stood at the head of %s: it is left out." % self.options.file)
+        return script.removeprefix(MARK)
 
     def figure(self, script):
         level = self.options.level if self.options.level >= 0 else None

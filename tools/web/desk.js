@@ -20,13 +20,47 @@ async function answerOf(answer) {
     throw new Wrong(word, answer.status);
 }
 
-export async function get(path) {
-    return answerOf(await fetch(path));
+// What each control tells where the server can't be reached.
+export const GONE = "tools/look has ended or can't be reached. This page's text is still here, and Export has it as a file.";
+
+// What is on its way and takes long: `Busy.onLong` is told of it after half a second, with what the server works at, and again until it ends.
+export const Busy = { onLong: () => {}, count: 0, timer: null };
+const AFTER = 500, AGAIN = 300;
+
+async function tellLong() {
+    let told = { line: "", seconds: 0 };
+    try {
+        told = await (await fetch("/busy", { headers: { "X-Token": token } })).json();
+    } catch (error) {
+        // It can't be reached, which is told elsewhere.
+    }
+    if (!Busy.count) return;
+    Busy.onLong(told);
+    Busy.timer = setTimeout(tellLong, AGAIN);
 }
 
-export async function post(path, body) {
-    const answer = await fetch(path, { method: "POST", headers: { "X-Token": token, "Content-Type": "application/json" }, body: JSON.stringify(body) });
-    return (await answerOf(answer)).json();
+async function reach(path, options, isWatched) {
+    if (isWatched && Busy.count++ === 0) Busy.timer = setTimeout(tellLong, AFTER);
+    try {
+        const answer = await fetch(path, options);
+        return isWatched ? new Response(await answer.blob(), { status: answer.status, headers: answer.headers }) : answer;
+    } catch (error) {
+        throw new Wrong(GONE, 0);
+    } finally {
+        if (isWatched && --Busy.count === 0) {
+            clearTimeout(Busy.timer);
+            Busy.onLong(null);
+        }
+    }
+}
+
+export async function get(path, isWatched = true) {
+    return answerOf(await reach(path, { headers: { "X-Token": token } }, isWatched));
+}
+
+export async function post(path, body, isWatched = true) {
+    const headers = { "X-Token": token, "Content-Type": "application/json" };
+    return (await answerOf(await reach(path, { method: "POST", headers, body: JSON.stringify(body) }, isWatched))).json();
 }
 
 // The lines that differ: where they begin, how many go, and what comes.
@@ -56,7 +90,8 @@ export class Desk {
     async listen() {
         for (;;) {
             try {
-                const state = await (await get("/state?turn=" + this.turn + "&text=" + this.number)).json();
+                // The first state comes as soon as the script is answered; later ones come when there is something new.
+                const state = await (await get("/state?turn=" + this.turn + "&text=" + this.number, this.number < 0)).json();
                 this.desk = this.desk || state.desk;
                 if (state.desk !== this.desk) {
                     this.onNewDesk();
@@ -65,6 +100,11 @@ export class Desk {
                 this.onGone(false);
                 this.take(state);
             } catch (error) {
+                // A server that doesn't know this page is another one than that which opened it.
+                if (error.status === 403) {
+                    this.onNewDesk();
+                    return;
+                }
                 this.onGone(true);
                 this.turn = 0;
                 await new Promise(done => setTimeout(done, 1000));
@@ -133,13 +173,22 @@ export class Desk {
 
     async failed(error) {
         if (error.status === 409) {
-            const state = await (await get("/state?turn=0")).json();
-            this.clash = { state, wanted: this.wanted };
-            this.onClash();
+            await this.beginClash();
         } else if (error.status) {
             this.onWrong(error.message);
             this.wanted = null;
         } else {
+            this.onGone(true);
+            setTimeout(() => this.send(), 1000);
+        }
+    }
+
+    async beginClash() {
+        try {
+            const state = await (await get("/state?turn=0")).json();
+            this.clash = { state, wanted: this.wanted };
+            this.onClash();
+        } catch (error) {
             this.onGone(true);
             setTimeout(() => this.send(), 1000);
         }

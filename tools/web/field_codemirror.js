@@ -1,6 +1,6 @@
 // The text field by CodeMirror, where that is installed: colours, and the replies within the text.
 
-import { COMMANDS, beginOfNames, columnOf, meaningOf, placeOf, shortReply, wordOf } from "/web/language.js";
+import { COMMANDS, beginOfNames, columnOf, placeOf, refusalText, shortReply, wordOf } from "/web/language.js";
 
 const page = globalThis.document;
 const LONGEST_COLOURED = 4000;
@@ -32,22 +32,34 @@ function element(name, kind, text) {
     return made;
 }
 
-// The reply behind a line.
-function besides(reply) {
+// The reply behind a line. What its counts mean is told by a click.
+function besides(reply, onCounts) {
     const refused = reply.startsWith("refused ");
-    return element("span", refused ? "reply refused" : "reply", refused ? "" : shortReply(reply));
+    const made = element("span", refused ? "reply refused" : "reply", refused ? "" : shortReply(reply));
+    made.dataset.reply = refused ? "" : shortReply(reply) === reply || !reply.startsWith("ok ") ? made.textContent : reply;
+    if (reply.startsWith("ok ")) made.addEventListener("click", () => onCounts(reply));
+    return made;
 }
 
-// A refusal below its line: a caret under the column, the reply, and what it means. Of a line that takes several rows the part around the
-// column stands above the caret.
-function below(field, number, reply) {
+// The line that was meant, to be taken by a click.
+function meantButton(meant, onTaken) {
+    const made = element("button", "meant", "Take: " + meant);
+    made.title = "Take this line (Alt+Enter on the refused one)";
+    made.addEventListener("click", onTaken);
+    return made;
+}
+
+// A refusal below its line: a caret under the column, the reply, what helps, and the line that was meant. Of a line that takes several rows
+// the part around the column stands above the caret.
+function below(field, number, reply, hint, onMeant) {
     const line = field.getLine(number), column = columnOf(reply), place = column ? placeOf(line, column) : 0;
     const made = element("div", "caret", "");
     const fits = Math.floor(field.getScrollInfo().clientWidth / field.defaultCharWidth()) - 8;
     const begin = line.length > fits ? Math.max(0, place - Math.floor(fits / 2)) : 0;
     if (column && line.length > fits) made.append(element("div", "caret-part", line.slice(begin, begin + Math.max(10, fits))));
     if (column) made.append(element("span", "caret-front", line.slice(begin, place).replace(/[^\t]/g, " ")), element("span", "caret-sign", "^ "));
-    made.append(element("span", "caret-reply", reply + (meaningOf(reply) ? ": " + meaningOf(reply) : "")));
+    made.append(element("span", "caret-reply", refusalText(reply, hint)));
+    if (hint && hint.meant) made.append(element("span", "", " "), meantButton(hint.meant, () => onMeant(number, hint.meant)));
     made.dataset.line = number + 1;
     return made;
 }
@@ -113,6 +125,30 @@ export class CodeMirrorField {
         this.field.focus();
     }
 
+    hasFocus() {
+        return this.field.hasFocus();
+    }
+
+    // Where the cursor is on the page.
+    caretBox() {
+        return this.field.cursorCoords(null, "window");
+    }
+
+    // The place of the text under the mouse, or null.
+    placeUnder(event) {
+        if (!this.field.getWrapperElement().contains(event.target) || !event.target.closest(".CodeMirror-line")) return null;
+        const { line, ch } = this.field.coordsChar({ left: event.clientX, top: event.clientY }, "window");
+        const box = this.field.charCoords({ line, ch }, "window"), column = box.left > event.clientX ? ch - 1 : ch;
+        return column < 0 || column >= this.field.getLine(line).length ? null : { line, column };
+    }
+
+    // Puts the cursor at a place, and lets it be seen.
+    goTo(line, column) {
+        this.field.setCursor(line, column);
+        this.field.scrollIntoView(null, 80);
+        this.field.focus();
+    }
+
     // Puts the cursor before a line, and lets it be seen with what stands behind it.
     begin(line) {
         this.field.setCursor(line, 0);
@@ -125,15 +161,16 @@ export class CodeMirrorField {
         this.field.setOption("readOnly", !isAllowed);
     }
 
-    // Puts the replies beside their lines, each [number, reply]; what stands already stays.
-    showReplies(replies) {
+    // Puts the replies beside their lines, each [number, reply], with the hints where there are some; what stands already stays.
+    showReplies(replies, hints) {
         this.field.operation(() => {
             const wanted = new Map(replies.map(([number, reply]) => [number, reply]));
             for (const [number, shown] of this.shown) {
-                if (wanted.get(number) !== shown.reply || !this.stands(number, shown)) this.takeAway(number, shown);
+                const isSame = wanted.get(number) === shown.reply && JSON.stringify(hints.get(number)) === shown.hint;
+                if (!isSame || !this.stands(number, shown)) this.takeAway(number, shown);
             }
             for (const [number, reply] of wanted) {
-                if (!this.shown.has(number) && number < this.field.lineCount()) this.putReply(number, reply);
+                if (!this.shown.has(number) && number < this.field.lineCount()) this.putReply(number, reply, hints.get(number));
             }
         });
     }
@@ -150,12 +187,13 @@ export class CodeMirrorField {
         this.shown.delete(number);
     }
 
-    putReply(number, reply) {
+    putReply(number, reply, hint) {
         const text = this.field.getLine(number), refused = reply.startsWith("refused ");
-        const beside = this.field.setBookmark({ line: number, ch: text.length }, { widget: besides(reply), insertLeft: true, handleMouseEvents: true });
+        const beside = this.field.setBookmark({ line: number, ch: text.length }, { widget: besides(reply, this.handlers.onCounts), insertLeft: true, handleMouseEvents: true });
         const handle = this.field.getLineHandle(number);
         if (refused) this.field.addLineClass(handle, "wrap", "refused-line");
-        this.shown.set(number, { reply, text, beside, handle, below: refused ? this.field.addLineWidget(number, below(this.field, number, reply)) : null });
+        const made = refused ? this.field.addLineWidget(number, below(this.field, number, reply, hint, this.handlers.onMeant)) : null;
+        this.shown.set(number, { reply, hint: JSON.stringify(hint), text, beside, handle, below: made });
     }
 
     // A number that is pulled sideways changes; one that is only clicked gets the cursor.

@@ -1,6 +1,6 @@
 // The text field by a plain text area with line numbers, where CodeMirror isn't installed. The replies stand below it.
 
-import { columnOf, meaningOf, placeOf, shortReply } from "/web/language.js";
+import { columnOf, placeOf, refusalText, shortReply } from "/web/language.js";
 
 const page = globalThis.document;
 const WIDEST = 90;
@@ -33,6 +33,7 @@ export class PlainField {
         box.append(this.numbers, this.area);
         this.replies = row("plain-replies", "");
         place.append(box, this.replies);
+        this.handlers = handlers;
         this.area.addEventListener("input", () => {
             this.number();
             handlers.onChange(this.lines());
@@ -83,6 +84,30 @@ export class PlainField {
         this.area.focus();
     }
 
+    hasFocus() {
+        return page.activeElement === this.area;
+    }
+
+    // Where the cursor is on the page, by the size of its letters.
+    caretBox() {
+        const box = this.area.getBoundingClientRect(), style = getComputedStyle(this.area), height = parseFloat(style.lineHeight), { line, column } = this.caret();
+        const top = box.top + 4 + line * height - this.area.scrollTop;
+        return { left: box.left + 8 + column * parseFloat(style.fontSize) * 0.6 - this.area.scrollLeft, top, bottom: top + height };
+    }
+
+    // What is under the mouse isn't known of a plain area.
+    placeUnder() {
+        return null;
+    }
+
+    // Puts the cursor at a place, and lets it be seen.
+    goTo(line, column) {
+        const lines = this.lines(), place = lines.slice(0, line).join("\n").length + (line ? 1 : 0) + column;
+        this.area.setSelectionRange(place, place);
+        if (this.area.scrollHeight > this.area.clientHeight) this.area.scrollTop = Math.max(0, line - 3) * this.area.scrollHeight / lines.length;
+        this.area.focus();
+    }
+
     // Puts the cursor before a line, and lets it be seen with what stands behind it.
     begin(line) {
         const lines = this.lines(), place = lines.slice(0, line).join("\n").length + (line ? 1 : 0);
@@ -95,13 +120,32 @@ export class PlainField {
         this.area.readOnly = !isAllowed;
     }
 
-    showReplies(replies) {
+    showReplies(replies, hints) {
         const lines = this.lines();
         this.replies.replaceChildren(...replies.map(([number, reply]) => {
             const line = lines[number] || "", column = columnOf(reply);
-            if (!reply.startsWith("refused ")) return row("reply", "line " + (number + 1) + ": " + shortReply(reply));
-            const shown = column ? "\n" + withCaret(line, placeOf(line, column)) : "";
-            return row("reply refused", "line " + (number + 1) + ": " + reply + ": " + meaningOf(reply) + shown);
+            if (!reply.startsWith("refused ")) return this.replyRow(number, reply);
+            const shown = column ? "\n" + withCaret(line, placeOf(line, column)) : "", hint = hints.get(number);
+            const made = row("reply refused", "line " + (number + 1) + ": " + refusalText(reply, hint) + shown);
+            if (hint && hint.meant) made.append(this.meantButton(number, hint.meant));
+            return made;
         }));
+    }
+
+    replyRow(number, reply) {
+        const made = row("reply", "line " + (number + 1) + ": " + shortReply(reply));
+        made.dataset.reply = "line " + (number + 1) + ": " + (reply.startsWith("ok ") ? reply : shortReply(reply));
+        if (reply.startsWith("ok ")) made.addEventListener("click", () => this.handlers.onCounts(reply));
+        return made;
+    }
+
+    // The line that was meant, to be taken by a click.
+    meantButton(number, meant) {
+        const made = page.createElement("button");
+        made.className = "meant";
+        made.textContent = "Take: " + meant;
+        made.title = "Take this line (Alt+Enter on the refused one)";
+        made.addEventListener("click", () => this.handlers.onMeant(number, meant));
+        return made;
     }
 }

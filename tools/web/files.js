@@ -1,6 +1,6 @@
 // Files that a person asks for, and the link that holds a script.
 
-import { Wrong } from "/web/desk.js";
+import { get } from "/web/desk.js";
 
 export function download(blob, name) {
     const link = globalThis.document.createElement("a");
@@ -25,8 +25,7 @@ export async function fetchExport(kind, level, line) {
     const words = [];
     if (level !== null) words.push("level=" + level);
     if (line !== null) words.push("line=" + line);
-    const answer = await fetch("/export/" + kind + "?" + words.join("&"));
-    if (!answer.ok) throw new Wrong((await answer.json()).wrong, answer.status);
+    const answer = await get("/export/" + kind + "?" + words.join("&"));
     const name = /filename="([^"]*)"/.exec(answer.headers.get("Content-Disposition") || "");
     download(await answer.blob(), name ? name[1] : "picture." + kind);
 }

@@ -39,7 +39,13 @@ export class Gallery {
     async open() {
         if (at("gallery").open) return;
         at("gallery").showModal();
-        if (!this.isFilled) await this.fill();
+        try {
+            if (!this.isFilled) await this.fill();
+        } catch (error) {
+            this.isFilled = false;
+            at("gallery").close();
+            throw error;
+        }
         at("gallery").scrollTop = 0;
         const first = at("examples").querySelector("button");
         if (first) first.focus({ preventScroll: true });

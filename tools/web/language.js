@@ -1,5 +1,5 @@
-// What a page has to know of the language: its words, where the numbers of a line are, which line an edit replaces, and what a
-// refusal says in plain words. What a script means only the program says.
+// What a page has to know of the language: its words, where the numbers of a line are, and which line an edit replaces. What a script
+// means only the program says, and what helps where a line is refused the server tells, as on the terminal.
 
 export const EDITS = ["axiom", "production", "drop", "ignore", "schedule", "seed", "depth", "lattice", "hom", "version", "ignoring", "consider", "common", "lineage"];
 export const QUERIES = ["string", "segments", "svg", "show", "bounds", "at", "growth"];
@@ -93,46 +93,24 @@ export function placeOf(line, column) {
     return place;
 }
 
-const MEANINGS = [
-    [/^refused syntax long/, "this line has more than 65,536 bytes"],
-    [/^refused syntax byte/, "this sign belongs to no word of the language"],
-    [/^refused syntax token/, "something is missing or too much here"],
-    [/^refused syntax deep/, "this is nested more than 32 deep"],
-    [/^refused name/, "this name isn't among those in the parentheses of the rule's pattern"],
-    [/^refused duplicate/, "this name stands in the rule's pattern already"],
-    [/^refused mixed/, "of the rules for one module all have a weight (@), or none"],
-    [/^refused label/, "this label stands elsewhere, or nowhere"],
-    [/^refused table/, "there is no such table, or it is still needed"],
-    [/^refused level/, "this level is past the depth"],
-    [/^refused many/, "this is past a limit of the language"],
-    [/^refused version/, "this needs version 2, or there is no such version"],
-    [/^refused fault overflow/, "a number would have more than 64 bits"],
-    [/^refused fault divide-by-zero/, "a division by 0"],
-    [/^refused fault negative-power/, "a power with a negative exponent"],
-    [/^refused fault negative-weight/, "a weight is negative"],
-    [/^refused fault weight-total/, "the weights sum to too much"],
-    [/^refused fault too-far/, "a context reads too much"],
-    [/^refused limit/, "the levels would be too large together"],
-    [/^refused image/, "the picture would have more than 1,000,000 symbols"],
-    [/^refused far/, "the picture would reach too far"],
-    [/^refused place/, "the image has fewer symbols than this"],
-    [/^refused undo/, "no system is kept that stands before this one"],
-    [/^refused redo/, "nothing was undone since the last edit"],
-    [/^refused growth/, "only where every module of a letter is rewritten alike is its growth known"],
-    [/^refused letters/, "more than 63 letters"],
-    [/^refused overflow/, "the level would have 2^128 symbols or more"],
-    [/^refused memory/, "there is no memory for it"],
-];
-
-export function meaningOf(reply) {
-    const found = MEANINGS.find(([pattern]) => pattern.test(reply));
-    return found ? found[1] : "";
-}
-
 // A reply as it stands beside its line.
 export function shortReply(reply) {
+    const counts = /^ok (\d+)\/(\d+)$/.exec(reply);
+    if (counts) return counts[2] === "0" ? "ok" : "asked anew " + Number(counts[1]).toLocaleString("en") + " of " + Number(counts[2]).toLocaleString("en");
     const picture = /^segments (\d+)/.exec(reply);
     if (picture) return "a picture of " + Number(picture[1]).toLocaleString("en") + (picture[1] === "1" ? " line" : " lines");
     const text = reply.split("\n").slice(0, 12).join("\n");
     return text.length > 160 ? text.slice(0, 160) + " .." : text;
+}
+
+// What the counts of an edit say.
+export function countsMeaning(asked, all) {
+    if (all === "0") return "No module of the derivation has a rule, so nothing had to be asked.";
+    return "Of the " + Number(all).toLocaleString("en") + " modules that have a rule, " + Number(asked).toLocaleString("en")
+        + " had to be asked anew what becomes of them; all others kept the answer that they had.";
+}
+
+// A refusal in words: the reply, and what helps.
+export function refusalText(reply, hint) {
+    return reply + (hint && hint.told ? ": " + hint.told : "");
 }

@@ -48,8 +48,13 @@ export class Levels {
         this.onLevel();
     }
 
-    // A new state of the script. A level past the depth is none any more.
-    take(state, lines) {
+    // A new state of the script. A level past the depth is none any more. While a line is being typed that is refused as it is, depth and
+    // level stay.
+    take(state, lines, isTyping) {
+        if (isTyping && this.state) {
+            this.state = { ...state, depth: this.state.depth };
+            return;
+        }
         this.state = state;
         if (this.chosen !== null && this.chosen >= state.depth) this.chosen = null;
         const written = depthOf(lines);

@@ -1,13 +1,16 @@
 // The page: a script and what the program says of it.
 
 import { ASKED_ABOVE, Picture } from "/web/picture.js";
-import { Desk, post } from "/web/desk.js";
+import { Busy, Desk, GONE, post } from "/web/desk.js";
+import { Completion } from "/web/completing.js";
 import { CodeMirrorField } from "/web/field_codemirror.js";
 import { Gallery } from "/web/gallery.js";
+import { Help } from "/web/help.js";
 import { History } from "/web/history.js";
 import { Levels } from "/web/levels.js";
 import { PlainField } from "/web/field_plain.js";
-import { QUERIES, numberAt, withEdit, wordOf } from "/web/language.js";
+import { QUERIES, columnOf, countsMeaning, numberAt, placeOf, withEdit, wordOf } from "/web/language.js";
+import { TEMPLATES, listenForFiles, textOf } from "/web/starting.js";
 import { bytesOf, download, fetchExport, linkOf, scriptOf } from "/web/files.js";
 
 const page = globalThis.document;
@@ -25,13 +28,17 @@ class Page {
         this.noticed = null;
         this.desk = new Desk({ onState: state => this.take(state), onScript: script => this.takeScript(script), onClash: () => this.askOfClash(),
             onGone: isGone => this.tellGone(isGone), onWrong: word => this.notice(word), onNewDesk: () => this.askOfNewDesk() });
-        const handlers = { onChange: lines => this.change(lines, "typing"), onCaret: () => this.tellNumber(), onUndo: () => this.undo(), onRedo: () => this.redo(),
-            onDrag: (line, column) => this.dragOf(line, column) };
+        const handlers = { onChange: lines => this.change(lines, "typing"), onCaret: () => this.tellCaret(), onUndo: () => this.undo(), onRedo: () => this.redo(),
+            onDrag: (line, column) => this.dragOf(line, column), onCounts: reply => this.tellMeaning(reply), onMeant: (line, meant) => this.takeMeant(line, meant) };
         this.field = globalThis.CodeMirror ? new CodeMirrorField(at("editor"), handlers) : new PlainField(at("editor"), handlers);
         this.picture = new Picture(at("picture"), () => this.tellPicture());
         this.levels = new Levels(() => this.lines(), lines => this.put(lines, "depth"), () => this.wantPicture());
         this.gallery = new Gallery(name => this.open({ name }));
+        this.help = new Help(script => this.open({ name: "from the help", script }));
+        this.completion = new Completion(() => ({ lines: this.lines(), caret: this.field.caret(), box: this.field.caretBox() }), (...choice) => this.complete(...choice));
         this.listen();
+        // The key of the address is spent.
+        if (location.search) globalThis.history.replaceState(null, "", location.pathname + location.hash);
         this.desk.listen();
     }
 
@@ -95,7 +102,7 @@ class Page {
         this.field.allow(!this.isHeld);
         if (!this.isHeld || wasHeld) return;
         this.field.setLines(["; This script has " + size + " signs. It is derived and drawn, and not put into this field."]);
-        this.field.showReplies([]);
+        this.field.showReplies([], new Map());
         this.ask("This script has " + size + " signs.", "Edit it all the same", () => this.letIn(), "Leave it", () => {});
     }
 
@@ -104,7 +111,7 @@ class Page {
         this.isHeld = false;
         this.field.allow(true);
         this.field.setLines(this.desk.wanted || this.desk.lines);
-        this.field.showReplies(this.state.replies);
+        this.field.showReplies(this.state.replies, this.hints());
     }
 
     // All that a new state changes on the page.
@@ -115,21 +122,52 @@ class Page {
         at("name").textContent = state.name || "a new script";
         page.title = (state.kept ? "" : "* ") + (state.name || "lsys");
         at("kept").textContent = state.saved ? "saved" : state.kept ? "" : "not saved";
-        if (!this.desk.isPending() && !this.isHeld) this.field.showReplies(state.replies);
+        if (!this.desk.isPending() && !this.isHeld) this.field.showReplies(state.replies, this.hints());
+        if (page.activeElement !== at("limit")) at("limit").value = state.limit;
         this.tellCounts(state.counts);
         this.tellNotice(state);
-        this.levels.take(state, this.lines());
+        this.tellStopped(state.stopped);
+        this.levels.take(state, this.lines(), this.isTyping());
         this.tellWhich();
-        if (isNewText || this.picture.asked === null || this.picture.asked.text !== state.text) this.wantPicture();
+        const isStopped = state.stopped && (state.stopped[0] === null || !state.running);
+        if (!isStopped && (isNewText || this.picture.asked === null || this.picture.asked.text !== state.text)) this.wantPicture();
         this.tellPicture();
         page.body.dataset.turn = state.turn;
         page.body.dataset.pending = this.desk.isPending();
         if (isFirst) this.begin();
+        if (isFirst) this.help.load().catch(() => {});
     }
 
     async begin() {
         this.tellHistory();
-        if (!await this.takeLink() && !this.state.path && this.state.size === 0) this.gallery.open();
+        if (!await this.takeLink() && !this.state.path && this.state.size === 0) this.openGallery();
+    }
+
+    openGallery() {
+        this.deed(() => this.gallery.open());
+    }
+
+    // What takes long is told, with what it is and for how long, and can be stopped.
+    tellBusy(told) {
+        at("busy").hidden = told === null;
+        if (told === null) return;
+        const what = told.line ? "Working at `" + told.line + "`, " + Math.round(told.seconds) + " s so far." : "Working ..";
+        at("busy").querySelector("span").textContent = what;
+    }
+
+    cancel() {
+        this.deed(() => post("/cancel", {}, false));
+    }
+
+    // What a person stopped, until the script is another one.
+    tellStopped(stopped) {
+        const key = JSON.stringify(stopped);
+        if (key === this.stoppedTold) return;
+        const before = this.stoppedWord, [line, text] = stopped || [null, ""];
+        this.stoppedTold = key;
+        this.stoppedWord = !stopped ? "" : line === null ? "`" + text + "` was stopped. The script is answered; the picture stays as it was."
+            : "Line " + (line + 1) + ", `" + text + "`, was stopped. The lines before it are answered: change it to go on.";
+        if (stopped || before && at("notice").querySelector("span").textContent === before) this.notice(this.stoppedWord);
     }
 
     // Takes the script of the address, where it holds one; asks before that where there is another one.
@@ -147,9 +185,45 @@ class Page {
     tellCounts(counts) {
         const [asked, all] = counts || [0, 0];
         at("bar").style.width = (all ? 100 * asked / all : 0) + "%";
-        const word = "last edit: " + numeral(asked) + " of " + numeral(all) + " asked anew";
-        at("counts").querySelector("span").textContent = counts ? word : "no edit yet";
+        at("counts_text").textContent = counts ? "last edit: asked anew " + numeral(asked) + " of " + numeral(all) : "no edit yet";
         at("counts").dataset.counts = counts ? asked + "/" + all : "";
+        if (!at("counts_meaning").hidden) this.tellMeaning(null, true);
+    }
+
+    // What the counts of a reply, or those of the last edit, mean; once more, hides it.
+    tellMeaning(reply, stays = false) {
+        const counts = reply ? /^ok (\d+)\/(\d+)$/.exec(reply).slice(1) : (at("counts").dataset.counts || "0/0").split("/");
+        const text = countsMeaning(...counts), isShown = !at("counts_meaning").hidden && at("counts_meaning").textContent === text && !stays;
+        at("counts_meaning").hidden = isShown;
+        at("counts_meaning").textContent = text;
+        at("counts").setAttribute("aria-expanded", String(!isShown));
+    }
+
+    // What helps where lines are refused, by their numbers.
+    hints() {
+        return new Map(this.state.hints.map(([line, told, meant]) => [line, { told, meant }]));
+    }
+
+    // Puts the line that was meant in the place of a refused one.
+    takeMeant(line, meant) {
+        this.put(this.lines().with(line, meant), "");
+        this.field.goTo(line, meant.length);
+    }
+
+    takeMeantHere() {
+        const { line } = this.field.caret(), hint = this.hints().get(line);
+        if (hint && hint.meant && !this.isHeld) this.takeMeant(line, hint.meant);
+    }
+
+    // The refused lines, each [number, reply].
+    refused() {
+        return this.state.replies.filter(([, reply]) => reply.startsWith("refused "));
+    }
+
+    // Whether the only refused line is the one that is being typed.
+    isTyping() {
+        const refused = this.refused();
+        return refused.length === 1 && this.state.refused === 1 && this.field.hasFocus() && this.field.caret().line === refused[0][0];
     }
 
     tellNotice(state) {
@@ -196,13 +270,24 @@ class Page {
     }
 
     askOfNewDesk() {
-        this.ask("tools/look was started anew. This page's text is still here: Export has it.", "Load the page anew", () => location.reload(), null, null);
+        this.ask("tools/look was started anew, and its terminal has the address of a new page. This page's text is still here: Export has it.", null, null, null, null);
     }
 
     tellGone(isGone) {
         if (isGone === this.isGone) return;
         this.isGone = isGone;
-        this.notice(isGone ? "tools/look has ended or can't be reached. This page's text is still here, and Export has it." : "");
+        if (isGone) this.notice(GONE);
+        else if (at("notice").querySelector("span").textContent === GONE) this.notice("");
+        if (isGone) this.askToKeep();
+        else if (this.question === "gone") this.ask(null);
+    }
+
+    // Offers the text as a file as long as the server is gone.
+    askToKeep() {
+        this.ask("The text can be kept as a file.", "Save the text as a file", () => {
+            this.export("script");
+            this.askToKeep();
+        }, null, null, "gone");
     }
 
     async deed(deed) {
@@ -216,7 +301,7 @@ class Page {
 
     // Takes another script. The one before can be had again by undo.
     async open(asked) {
-        if (this.isGone) return;
+        if (this.isGone) return this.notice(GONE);
         await this.desk.settled();
         const wasKept = this.state.kept;
         this.ask(null);
@@ -229,6 +314,7 @@ class Page {
     }
 
     async save() {
+        if (this.isGone) return this.notice(GONE);
         const { path } = this.state;
         await this.desk.settled();
         if (path) {
@@ -270,27 +356,80 @@ class Page {
         return at("which").hidden || value === "" ? null : Number(value);
     }
 
-    // Where a line is refused, the picture stays that was taken last.
+    // While a line is being typed that is refused as it is, the picture stays.
     wantPicture() {
-        if (this.state.refused && this.picture.data) {
+        if (this.picture.data && this.isTyping()) {
             this.tellPicture();
             return;
         }
+        this.drawnFrom = { text: this.state.text, lines: this.lines() };
         const level = this.levels.chosen;
         this.picture.want(this.state.text, level, level === null ? this.line() : null);
     }
 
     tellPicture() {
         const { data, large, refusal } = this.picture;
-        const isStale = Boolean(this.state.refused && data);
+        const isStale = Boolean(this.state.refused && data && this.drawnFrom && this.drawnFrom.text !== this.state.text);
         at("picture").classList.toggle("stale", isStale || Boolean(large));
-        at("stale").hidden = !isStale;
+        this.tellRefused(data);
         at("large").hidden = !large;
         if (large) at("large").querySelector("span").textContent = "This picture has " + numeral(large.count) + " lines, more than " + numeral(ASKED_ABOVE) + ".";
         const count = data ? numeral(data.count) + (data.count === 1 ? " line" : " lines") : "";
-        const word = refusal ? "no picture: " + refusal : data ? count + ", level " + data.level : "";
+        const none = data && data.count === 0 ? ": only names that begin with F draw" : "";
+        const word = refusal ? "no picture: " + refusal : data ? count + ", level " + data.level + none : "";
         at("told").textContent = word;
         at("picture").setAttribute("aria-label", word || "no picture yet");
+    }
+
+    // The first refused line, to go to, and of which lines the picture is.
+    tellRefused(data) {
+        const [first] = this.refused();
+        at("stale").hidden = !first;
+        if (!first) return;
+        const [line, reply] = first, hint = this.hints().get(line);
+        const told = "line " + numeral(line + 1) + " is refused: " + (hint && hint.told || reply);
+        if (at("to_refused").textContent !== told) at("to_refused").textContent = told;
+        at("to_refused").onclick = () => this.field.goTo(line, Math.max(0, placeOf(this.lines()[line] || "", columnOf(reply))));
+        const more = this.state.refused > 1 ? "So are " + numeral(this.state.refused - 1) + " more. " : "";
+        at("stale").querySelector("span").textContent = more + (data ? "The picture is of " + this.drawnLines(line) + "." : "");
+    }
+
+    // Of which lines the picture is, where line number `first` is the first that is refused.
+    drawnLines(first) {
+        const front = first === 0 ? "no line" : first === 1 ? "line 1" : "lines 1 to " + numeral(first);
+        const isCommand = line => line.trim() !== "" && !line.startsWith(";") && !QUERIES.includes(wordOf(line));
+        const { text, lines } = this.drawnFrom || { text: 0, lines: [] };
+        if (text === this.state.text) return lines.slice(first + 1).some(isCommand) ? "all lines but those that are refused" : front;
+        const isFront = lines.slice(0, first).join("\n") === this.lines().slice(0, first).join("\n") && !lines.slice(first).some(isCommand);
+        return isFront ? front : "the script before line " + numeral(first + 1) + " was changed";
+    }
+
+    // What stands at the cursor: a number, and a word or a turtle's sign that is told.
+    tellCaret() {
+        this.tellNumber();
+        const { line, column } = this.field.caret(), text = this.isHeld ? "" : this.lines()[line] || "";
+        at("tip_line").textContent = this.help.tipAt(text, column);
+    }
+
+    // What stands under the mouse.
+    tellHover(event) {
+        const place = this.isHeld ? null : this.field.placeUnder(event), text = place ? this.help.tipAt(this.lines()[place.line] || "", place.column) : "";
+        at("tip").hidden = !text;
+        at("tip").textContent = text;
+        at("tip").style.left = Math.max(4, Math.min(event.clientX + 12, globalThis.innerWidth - at("tip").offsetWidth - 8)) + "px";
+        at("tip").style.top = event.clientY + 18 + "px";
+    }
+
+    // Puts a choice in the place of what was begun.
+    complete(line, from, column, text) {
+        const lines = this.lines(), old = lines[line] || "", parts = (old.slice(0, from) + text + old.slice(column)).split("\n");
+        this.put([...lines.slice(0, line), ...parts, ...lines.slice(line + 1)], "");
+        const last = parts.length - 1;
+        this.field.goTo(line + last, parts.length > 1 ? parts[last].length : from + text.length);
+    }
+
+    async openFile(file) {
+        this.open({ name: file.name, script: await textOf(file) });
     }
 
     // The number at the cursor, and what it is to be.
@@ -328,18 +467,31 @@ class Page {
         this.setNumber(line, column, Number(number.text) + step);
     }
 
-    // A query is answered below the text; another line is put into the script.
+    // How many symbols all levels may have together.
+    async setLimit(limit) {
+        await this.deed(() => this.desk.deed("/limit", { limit }));
+        if (this.state.limit !== limit) at("limit").value = this.state.limit;
+    }
+
+    // A query is answered below the text, and nothing is changed; undo, redo and help do what they say.
     async askLine(line) {
+        const word = line.trim().split(/\s+/)[0], deeds = { undo: () => this.undo(), redo: () => this.redo(), help: () => this.deed(() => this.help.open()) };
+        at("answer").hidden = false;
+        at("answer").textContent = "";
+        if (deeds[word]) {
+            at("answer").textContent = word === "help" ? "The language is told at the side." : this.history[word === "undo" ? "canUndo" : "canRedo"]() ? word + ": done." : "There is nothing to " + word + ".";
+            return deeds[word]();
+        }
         if (!QUERIES.includes(wordOf(line))) {
-            this.put(withEdit(this.lines(), line), "");
-            at("line").value = "";
-            return;
+            at("answer").textContent = "`" + line.trim().slice(0, 200) + "` is no query, and nothing was changed: a line of the script stands in the text above. Queries are "
+                + QUERIES.join(", ") + "; undo, redo and help do what they say.";
+            return null;
         }
         const told = await this.deed(() => post("/ask", { line }));
-        if (!told) return;
-        at("answer").hidden = false;
+        if (!told) return null;
         const cut = told.length > told.reply.length + 1 && !told.reply.startsWith("segments ");
         at("answer").textContent = told.reply + (cut ? "\n.. cut: " + numeral(told.length) + " signs in all" : "");
+        return null;
     }
 
     async export(kind) {
@@ -363,8 +515,23 @@ class Page {
         at("undo").onclick = () => this.undo();
         at("redo").onclick = () => this.redo();
         at("save").onclick = () => this.save();
-        at("open_gallery").onclick = () => this.gallery.open();
-        at("new").onclick = () => this.open({ name: "", script: "" });
+        at("open_gallery").onclick = () => this.openGallery();
+        at("cancel").onclick = () => this.cancel();
+        Busy.onLong = told => this.tellBusy(told);
+        for (const { name, script } of TEMPLATES) {
+            const button = page.createElement("button");
+            button.textContent = name;
+            if (!script) button.id = "new";
+            button.addEventListener("click", () => {
+                at("new_menu").open = false;
+                this.open({ name: script ? name.toLowerCase().replace(/ /g, "_") : "", script });
+            });
+            at("templates").append(button);
+        }
+        listenForFiles(page, file => this.openFile(file));
+        at("help_button").onclick = () => this.deed(() => this.help.toggle());
+        at("editor").addEventListener("mousemove", event => this.tellHover(event));
+        at("editor").addEventListener("mouseleave", () => { at("tip").hidden = true; });
         at("nearer").onclick = () => this.picture.near(1.25);
         at("farther").onclick = () => this.picture.near(0.8);
         at("turn_left").onclick = () => this.picture.turnBy(-Math.PI / 12, 0);
@@ -372,6 +539,8 @@ class Page {
         at("fit").onclick = () => this.picture.fit();
         at("notice").querySelector("button").onclick = () => this.notice("");
         at("large").querySelector("button").onclick = () => this.picture.allow();
+        at("counts").onclick = () => this.tellMeaning(null);
+        at("limit").onchange = () => this.setLimit(Number(at("limit").value));
         at("which").querySelector("select").onchange = () => this.wantPicture();
         for (const kind of ["svg", "png", "obj", "dxf", "segments", "script", "link"]) at("export_" + kind).onclick = () => this.export(kind);
         at("number_slider").addEventListener("input", () => this.setNumber(this.numbered.line, this.numbered.column, Number(at("number_slider").value)));
@@ -384,6 +553,10 @@ class Page {
         globalThis.addEventListener("beforeunload", event => {
             if (this.desk.isPending() || this.isGone && !this.state.saved) event.preventDefault();
         });
+        // Whatever is used while the server is gone tells the same.
+        for (const kind of ["click", "change"]) page.addEventListener(kind, event => {
+            if (this.isGone && !event.target.closest("#notice, #question, #help, #editor")) this.notice(GONE);
+        });
         page.addEventListener("click", event => {
             for (const menu of page.querySelectorAll(".menu[open]")) if (!menu.contains(event.target)) menu.open = false;
         });
@@ -393,7 +566,9 @@ class Page {
         const isControl = event.ctrlKey || event.metaKey, key = event.key.toLowerCase();
         const deeds = {};
         if (isControl) deeds.s = () => this.save();
-        if (event.altKey) Object.assign(deeds, { g: () => this.gallery.open(), p: () => this.levels.play(), arrowup: () => this.stepNumber(1), arrowdown: () => this.stepNumber(-1) });
+        if (isControl && key === " " && at("editor").contains(page.activeElement)) deeds[" "] = () => this.completion.open();
+        if (key === "f1") deeds.f1 = () => this.deed(() => this.help.toggle());
+        if (event.altKey) Object.assign(deeds, { g: () => this.openGallery(), p: () => this.levels.play(), arrowup: () => this.stepNumber(1), arrowdown: () => this.stepNumber(-1), enter: () => this.takeMeantHere() });
         const isInText = at("editor").contains(page.activeElement) || page.activeElement === at("line");
         if (isControl && !isInText) Object.assign(deeds, { z: () => event.shiftKey ? this.redo() : this.undo(), y: () => this.redo() });
         if (key === "escape") for (const menu of page.querySelectorAll(".menu[open]")) menu.open = false;

@@ -1,0 +1,310 @@
+"""Trials of what the page tells and how it helps: refused lines, long work, and a server that goes."""
+import os
+import signal
+import time
+
+LONG = "axiom A(1)\nproduction a: A(x) < A(y) : x+y*x-y > x*y*x => A(x)A(y)\nproduction b: A(x) => A(x+1)A(x)\ndepth 5\n"
+ISLAND = "axiom F-F-F-F\nproduction f: F => F-F+F+FF-F-F+F\ndepth 2\nsvg\n"
+TOLD = """
+const at = id => document.getElementById(id);
+return {to_refused: at('stale').hidden ? '' : at('to_refused').textContent, drawn: at('stale').hidden ? '' : at('stale').querySelector('span').textContent,
+  busy: at('busy').hidden ? '' : at('busy').textContent, meaning: at('counts_meaning').hidden ? '' : at('counts_meaning').textContent,
+  counts: at('counts').textContent, beside: Array.from(document.querySelectorAll('.reply'), each => each.textContent), meant: Array.from(document.querySelectorAll('.meant'), each => each.textContent),
+  notice: at('notice').hidden ? '' : at('notice').querySelector('span').textContent, question: at('question').hidden ? '' : at('question').textContent,
+  caret: lookPage.field.caret(), script: lookPage.lines().join('\\n'), lines: Number(at('picture').dataset.lines || -1), levels: at('level_value').textContent, depth: at('depth_value').textContent,
+  running: (lookPage.state || {}).running, replies: (lookPage.state || {replies: []}).replies.length, stopped: (lookPage.state || {}).stopped, pending: lookPage.desk.isPending()};
+"""
+
+
+def expect(trial, what, holds, seconds=10):
+    """Waits until the page tells what it should."""
+    told, until = {}, time.time() + seconds
+    while time.time() < until:
+        told = trial.browser.run(TOLD)
+        if holds(told):
+            break
+        time.sleep(0.05)
+    trial.told(what, bool(holds(told)), told)
+    return told
+
+
+def refusals(trial):
+    """What was expected, the line that was meant, and of which lines the picture is."""
+    browser = trial.browser
+    trial.begin(ISLAND)
+    expect(trial, "counts are told in words", lambda told: "asked anew 36 of 36" in told["beside"] and "asked anew 36 of 36" in told["counts"])
+    browser.click("#counts")
+    expect(trial, "and what they mean on a click", lambda told: "Of the 36 modules that have a rule, 36 had to be asked anew" in told["meaning"])
+    browser.click("#counts")
+    expect(trial, "which hides it again", lambda told: told["meaning"] == "")
+    browser.run("document.querySelectorAll('.reply')[2].click()")
+    expect(trial, "also at the reply beside a line", lambda told: "Of the 36 modules" in told["meaning"])
+    trial.caret_to(2, 0)
+    browser.keys("Delete")
+    expect(trial, "while a line is being typed, depth, level and picture stay",
+           lambda told: told["to_refused"].startswith("line 3 is refused: did you mean `depth`?") and told["levels"] == "2 of 2" and told["depth"] == "2" and told["lines"] == 256)
+    expect(trial, "the line that was meant is offered", lambda told: told["meant"] == ["Take: depth 2"])
+    expect(trial, "it is told of which script the picture is", lambda told: told["drawn"] == "The picture is of the script before line 3 was changed.")
+    trial.shot("hint")
+    browser.click(".meant")
+    expect(trial, "and taken by a click", lambda told: told["script"] == ISLAND and not told["meant"] and told["to_refused"] == "")
+    trial.caret_to(4, 0)
+    browser.type("F=F+F")
+    expect(trial, "a rule in another notation is offered as a production", lambda told: told["meant"] == ["Take: production f2: F => F+F"] or told["meant"] == ["Take: production f: F => F+F"])
+    expect(trial, "and the picture is of the lines before it", lambda told: told["drawn"] == "The picture is of lines 1 to 4.")
+    browser.keys("Alt+Enter")
+    expect(trial, "one key takes it", lambda told: "production f" in told["script"].split("\n")[4] and not told["meant"])
+    rest = "\n".join("; line %d" % number for number in range(3, 201))
+    trial.begin("axiom F+F\nproduction f: F => F+F\n%s\ndeph 3\n" % rest)
+    expect(trial, "a refused line far below is told in the status", lambda told: told["to_refused"].startswith("line 201 is refused: did you mean"))
+    expect(trial, "with the lines that are drawn", lambda told: told["drawn"] == "The picture is of lines 1 to 200." and told["lines"] == 2)
+    browser.click("#to_refused")
+    expect(trial, "a click goes there", lambda told: told["caret"]["line"] == 200)
+    trial.is_quiet()
+
+
+def long_work(trial):
+    """What takes long says so after half a second, and can be stopped; the limit of a million symbols and a refusal by it."""
+    browser = trial.browser
+    trial.begin(LONG, "--limit", "1000000")
+    expect(trial, "a short derivation", lambda told: told["replies"] == 4)
+    browser.run("lookPage.put(lookPage.lines().map(line => line === 'depth 5' ? 'depth 18' : line), '')")
+    begun = time.time()
+    expect(trial, "what takes long is told, with what it is", lambda told: "Working at `depth 18`" in told["busy"] and "Cancel" in told["busy"], 5)
+    trial.told("after half a second", 0.3 < time.time() - begun < 3, time.time() - begun)
+    trial.shot("busy")
+    begun = time.time()
+    browser.click("#cancel")
+    expect(trial, "Cancel leaves the page at the last answered line", lambda told: told["stopped"] == [3, "depth 18"] and told["replies"] == 3 and told["busy"] == "", 5)
+    trial.told("within a second, and what the driver takes", time.time() - begun < 2.5, time.time() - begun)
+    expect(trial, "and says so", lambda told: "Line 4, `depth 18`, was stopped" in told["notice"])
+    expect(trial, "the program is begun again", lambda told: told["running"])
+    browser.run("lookPage.put(lookPage.lines().map(line => line === 'depth 18' ? 'depth 6' : line), '')")
+    expect(trial, "and goes on", lambda told: told["replies"] == 4 and told["stopped"] is None and not told["pending"])
+    browser.run("lookPage.put(['axiom A', 'production a: A => AA', 'depth 18'], '')")
+    expect(trial, "a depth of half a million symbols is answered", lambda told: told["replies"] == 3 and told["beside"][-1].endswith(" of 262,143") and not told["notice"], 60)
+    browser.run("lookPage.put(['axiom A', 'production a: A => AA', 'depth 19'], '')")
+    expect(trial, "one of a million is past the limit, and told so", lambda told: "levels 0 to 19 have together more than 1,000,000 symbols" in told["to_refused"] and "the greatest one" in told["to_refused"], 60)
+    trial.is_quiet()
+
+
+def gone(trial):
+    """The server goes: the page keeps the text, offers it as a file, and each control tells the same."""
+    browser = trial.browser
+    trial.begin(ISLAND)
+    expect(trial, "drawn", lambda told: told["lines"] == 256)
+    trial.look.send_signal(signal.SIGKILL)
+    trial.look.wait(10)
+    expect(trial, "the page says that it is gone, and offers the text", lambda told: "can't be reached" in told["notice"] and "Save the text as a file" in told["question"])
+    browser.click("#question button")
+    trial.told("as a file", browser.downloaded("island.lsys") == ISLAND.encode())
+    controls = ["#open_gallery", "#save", "#more_depth", "#less_level", "#play", "#fit", "#new_menu summary", "#help_button"]
+    for control in controls:
+        browser.run("lookPage.notice('')")
+        browser.click(control)
+        if control == "#help_button":
+            browser.run("document.getElementById('help').hidden = true")
+        expect(trial, "%s tells the same" % control, lambda told: "can't be reached" in told["notice"])
+        browser.run("document.querySelectorAll('.menu[open]').forEach(menu => { menu.open = false; })")
+    browser.run("lookPage.notice(''); document.getElementById('line').value = 'show'; document.getElementById('ask').requestSubmit()")
+    expect(trial, "a query tells the same", lambda told: "can't be reached" in told["notice"])
+    expect(trial, "and the text is there", lambda told: told["script"].startswith("axiom F-F-F-F"))
+    complaints = [line for line in browser.errors() if "Failed to load resource" not in line and "ERR_CONNECTION_REFUSED" not in line and "beforeunload" not in line]
+    trial.told("no error is left uncaught", not complaints, complaints)
+
+
+def side_panel(trial):
+    """The language at the side: commands, a search, examples that open, and what a word is."""
+    browser = trial.browser
+    trial.begin(ISLAND)
+    expect(trial, "drawn", lambda told: told["lines"] == 256)
+    browser.click("#help_button")
+    found = waited(trial, "return [document.getElementById('help').hidden, document.querySelectorAll('#help_commands a').length, document.querySelectorAll('#help_text section').length,"
+                       " document.querySelectorAll('#help .help-lsys button').length, document.activeElement.id]", lambda found: found[1] > 20)
+    trial.told("the panel has all commands, sections and examples", found[0] is False and found[1] >= 23 and found[2] > 40 and found[3] > 30 and found[4] == "help_search", found)
+    trial.shot("help")
+    browser.type("schedule")
+    found = browser.run("return [Array.from(document.querySelectorAll('#help_text section')).filter(each => !each.hidden).length, document.getElementById('help_found').textContent]")
+    trial.told("a search leaves the sections that have it", 0 < found[0] < 20 and found[1] == "%d sections" % found[0], found)
+    browser.run("document.querySelectorAll('#help_commands a')[1].click()")
+    found = browser.run("const box = document.getElementById('language_production').getBoundingClientRect(); return [Math.round(box.top), document.activeElement.textContent]")
+    trial.told("a command leads to its section", abs(found[0]) < 60 and found[1] == "production", found)
+    browser.run("document.querySelector('#language_production .help-lsys button').click()")
+    expect(trial, "an example opens as a new script", lambda told: "production grow" in told["script"] and told["replies"] > 3)
+    browser.run("document.getElementById('close_help').click()")
+    trial.told("Close closes it", browser.run("return document.getElementById('help').hidden"))
+    place = browser.run("const box = document.querySelector('.cm-keyword').getBoundingClientRect(); return [Math.round(box.left + 12), Math.round(box.top + 8)]")
+    browser.act("pointer", [{"type": "pointerMove", "x": place[0], "y": place[1], "origin": "viewport", "duration": 30}])
+    told = waited(trial, "return document.getElementById('tip').hidden ? '' : document.getElementById('tip').textContent", bool)
+    trial.told("a command under the mouse is told", told.startswith("axiom STRING: sets the axiom"), told)
+    line = browser.run("return lookPage.lines()[1]")
+    trial.caret_to(1, line.index("F(x*x)"))
+    told = waited(trial, "return document.getElementById('tip_line').textContent", bool)
+    trial.told("and a turtle's letter at the cursor", told.startswith("F: moves by as many steps"), told)
+    trial.is_quiet()
+
+
+def waited(trial, script, holds):
+    """What a script of the page gives, once it holds."""
+    found = None
+    for _ in range(50):
+        found = trial.browser.run(script)
+        if holds(found):
+            break
+        time.sleep(0.1)
+    return found
+
+
+def completing(trial):
+    """Ctrl+Space, with CodeMirror and without."""
+    browser = trial.browser
+    shown = "return Array.from(document.querySelectorAll('#completions:not([hidden]) li'), each => each.textContent)"
+    for words in ([], ["--plain"]):
+        trial.begin("version 2\naxiom AB_x\nproduction winter grow: A => B_x\nproduction stop: B_x => A\n\n", *words)
+        expect(trial, "a script %s" % " ".join(words), lambda told: told["replies"] == 4)
+        trial.caret_to(4, 0)
+        browser.keys("Control+ ")
+        found = waited(trial, shown, bool)
+        trial.told("commands and pieces of scripts are offered", "axiom command" in found and "bracketed plant piece of a script" in found and len(found) > 25, found)
+        browser.type("dr")
+        time.sleep(0.3)
+        trial.told("what is typed narrows them", browser.run(shown) == ["drop command"], browser.run(shown))
+        trial.shot("completing%s" % "".join(words))
+        browser.keys("Enter")
+        browser.keys("Control+ ")
+        found = waited(trial, shown, bool)
+        trial.told("labels behind drop", found == ["grow label", "stop label"], found)
+        browser.keys("Down", "Tab")
+        expect(trial, "Tab takes one", lambda told: told["script"].split("\n")[4] == "drop stop")
+        browser.run("lookPage.put([...lookPage.lines().slice(0, 4), 'schedule '], ''); lookPage.field.goTo(4, 9)")
+        browser.keys("Control+ ")
+        trial.told("tables behind schedule", waited(trial, shown, bool) == ["main table", "winter table"], browser.run(shown))
+        browser.keys("Escape")
+        trial.told("Escape closes the list", browser.run(shown) == [], browser.run(shown))
+        browser.run("lookPage.put([...lookPage.lines().slice(0, 4), 'stoch'], ''); lookPage.field.goTo(4, 5)")
+        browser.keys("Control+ ")
+        waited(trial, shown, bool)
+        browser.keys("Enter")
+        expect(trial, "a piece of a script is put", lambda told: told["script"].split("\n")[4:] == ["production left: F @ 1 => F[+F]F", "production right: F @ 1 => F[-F]F", "seed 1"] and told["replies"] == 7)
+        trial.is_quiet()
+
+
+def beginnings(trial):
+    """Templates, files that are opened and dropped, and the field that asks."""
+    browser = trial.browser
+    trial.begin("axiom F\nsvg\n")
+    names = browser.run("return Array.from(document.querySelectorAll('#templates button'), each => each.textContent)")
+    trial.told("New offers templates", len(names) == 7 and names[0] == "Empty", names)
+    for number, name in list(enumerate(names))[1:]:
+        browser.run("document.querySelectorAll('#templates button')[%d].click()" % number)
+        expect(trial, "%s draws" % name, lambda told: told["lines"] > 3 and told["to_refused"] == "" and not told["pending"])
+    path = os.path.join(trial.folder, "opened.lsys")
+    with open(path, "wb") as file:
+        file.write(b"\xef\xbb\xbfaxiom F+F+F\nsvg\n")
+    browser.call("/element/%s/value" % browser.element("#file"), {"text": path})
+    expect(trial, "a file is opened, and a mark at its head left out", lambda told: told["script"] == "axiom F+F+F\nsvg\n" and told["lines"] == 3)
+    browser.run("const data = new DataTransfer(); data.items.add(new File(['axiom F\\nsvg\\n'], 'dropped.lsys'));"
+                " document.body.dispatchEvent(new DragEvent('drop', {dataTransfer: data, bubbles: true, cancelable: true}))")
+    expect(trial, "a file that is dropped on the page, too", lambda told: told["script"] == "axiom F\nsvg\n" and told["lines"] == 1)
+    ask = "document.getElementById('line').value = '%s'; document.getElementById('ask').requestSubmit()"
+    answer = "return document.getElementById('answer').textContent"
+    browser.run(ask % "depth 3")
+    told = waited(trial, answer, bool)
+    trial.told("what is no query is told so, and changes nothing", "is no query, and nothing was changed" in told and "depth" not in browser.run(TOLD)["script"], told)
+    browser.run(ask % "bounds")
+    told = waited(trial, answer, lambda text: text.startswith("bounds"))
+    trial.told("a query is answered", told.startswith("bounds 0 0 0 "), told)
+    browser.run(ask % "undo")
+    expect(trial, "undo undoes", lambda told: told["script"] == "axiom F+F+F\nsvg\n")
+    browser.run(ask % "redo")
+    expect(trial, "redo does again", lambda told: told["script"] == "axiom F\nsvg\n")
+    browser.run(ask % "help")
+    trial.told("help opens the help", waited(trial, "return !document.getElementById('help').hidden", bool))
+    trial.is_quiet()
+
+
+# What of the page has no name, can't be reached, or is hard to read: each as a word.
+ACCESS = """
+const found = [];
+const seen = element => element.getClientRects().length > 0 && getComputedStyle(element).visibility !== 'hidden';
+const nameOf = element => (element.getAttribute('aria-label') || element.textContent || element.title || (element.labels && element.labels[0] && element.labels[0].textContent) || '').trim();
+for (const element of document.querySelectorAll('button, summary, input, select, textarea, canvas, a, [role=listbox], dialog, aside, section[aria-label]')) {
+  if (seen(element) && element.type !== 'file' && !nameOf(element)) found.push('no name: ' + element.outerHTML.slice(0, 90));
+  if (seen(element) && element.matches('button, input, select, textarea') && element.tabIndex < 0 && !element.disabled) found.push('no focus: ' + element.outerHTML.slice(0, 90));
+}
+const channel = value => { const part = value / 255; return part <= 0.03928 ? part / 12.92 : ((part + 0.055) / 1.055) ** 2.4; };
+const light = ([r, g, b]) => 0.2126 * channel(r) + 0.7152 * channel(g) + 0.0722 * channel(b);
+const pen = Object.assign(document.createElement('canvas'), {width: 1, height: 1}).getContext('2d', {willReadFrequently: true});
+const colourOf = text => { pen.clearRect(0, 0, 1, 1); pen.fillStyle = text; pen.fillRect(0, 0, 1, 1); return [...pen.getImageData(0, 0, 1, 1).data]; };
+const groundOf = element => { const above = []; for (let at = element; at; at = at.parentElement) above.unshift(colourOf(getComputedStyle(at).backgroundColor));
+  return above.reduce((below, [r, g, b, a]) => [r, g, b].map((value, place) => (value * a + below[place] * (255 - a)) / 255), colourOf('Canvas').slice(0, 3)); };
+const walker = document.createTreeWalker(document.body, NodeFilter.SHOW_TEXT);
+const told = new Set();
+for (let node; (node = walker.nextNode());) {
+  const element = node.parentElement;
+  if (!node.textContent.trim() || !seen(element) || element.closest(':disabled, .CodeMirror-measure, .unseen, option') || element.closest('[hidden]')) continue;
+  const style = getComputedStyle(element), ink = light(colourOf(style.color)), ground = light(groundOf(element));
+  const ratio = (Math.max(ink, ground) + 0.05) / (Math.min(ink, ground) + 0.05);
+  const key = element.className + style.color + ratio.toFixed(1);
+  if (ratio < 4.5 && !told.has(key)) { told.add(key); found.push('contrast ' + ratio.toFixed(2) + ': ' + element.className + ' ' + node.textContent.slice(0, 40)); }
+}
+const ids = Array.from(document.querySelectorAll('[id]'), each => each.id);
+for (const id of ids) if (ids.indexOf(id) !== ids.lastIndexOf(id)) found.push('twice: ' + id);
+return found;
+"""
+
+
+def access(trial):
+    """Names of controls, focus and contrast, light and dark, at three widths, with a refusal, the help and the gallery."""
+    browser = trial.browser
+    try:
+        for width, height in [(1400, 1000), (800, 1000), (390, 844)]:
+            trial.begin("; a comment\n" + ISLAND + "prodution g: G => GG\n")
+            browser.size(width, height)
+            expect(trial, "a refusal at %d columns" % width, lambda told: told["meant"])
+            for is_dark in (False, True):
+                browser.dark(is_dark)
+                time.sleep(0.3)
+                name = "%d_%s" % (width, "dark" if is_dark else "light")
+                trial.shot("refused_" + name)
+                found = browser.run(ACCESS)
+                trial.told("nothing is without name, focus or contrast: %s" % name, not found, found)
+                browser.run("lookPage.help.open()")
+                waited(trial, "return document.querySelectorAll('#help_text section').length", bool)
+                trial.shot("help_" + name)
+                found = browser.run(ACCESS)
+                trial.told("nor in the help: %s" % name, not found, found)
+                wide = browser.run("return document.documentElement.scrollWidth")
+                trial.told("nothing is wider than the page: %s" % name, wide <= width, wide)
+                browser.run("lookPage.help.close(); document.getElementById('new_menu').open = true")
+                found = browser.run(ACCESS)
+                trial.told("nor in a menu: %s" % name, not found, found)
+                browser.run("document.getElementById('new_menu').open = false; lookPage.openGallery()")
+                waited(trial, "return document.querySelectorAll('#examples button').length", bool)
+                found = browser.run(ACCESS)
+                trial.told("nor in the gallery: %s" % name, not found, found)
+                browser.run("document.getElementById('gallery').close()")
+            browser.dark(False)
+        order = focus_order(browser)
+        trial.told("Tab leads through all controls", len(order) > 20 and "help_button" in order and "limit" in order and "line" in order, order)
+    finally:
+        browser.dark(False)
+        browser.tell("Emulation.clearDeviceMetricsOverride", {})
+
+
+def focus_order(browser):
+    """The controls that Tab leads to, from the first one on."""
+    browser.run("document.getElementById('open_gallery').focus()")
+    order = []
+    for _ in range(60):
+        here = browser.run("const here = document.activeElement; return here.id || here.className || here.tagName")
+        if here in order[:1] and len(order) > 5:
+            break
+        order.append(here)
+        browser.keys("Escape" if here in ("TEXTAREA",) else "Tab")
+        if here == "TEXTAREA":
+            browser.keys("Tab")
+    return order
+
+
+TRIALS = [refusals, long_work, side_panel, completing, beginnings, access, gone]
