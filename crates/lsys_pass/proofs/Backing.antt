@@ -22,6 +22,7 @@ use Rattle.lsys_pass.specs.Rests.{IsResting}
 use Rattle.lsys_pass.specs.Stages.{Stage, IsStored, Rests}
 use Rattle.lsys_pass.specs.Passes.{PassView, stage_of, now_in, rest_in, HoldsAt, AllHaveSeats, IsPass}
 use Rattle.lsys_pass.specs.Sizes.{HaveSizes}
+use Rattle.lsys_pass.proofs.Runs.{own_runs}
 use Rattle.lsys_pass.proofs.Stores.{AllStay, rest_stays}
 use Rattle.lsys_pass.proofs.Sized.{none_sized}
 use Rattle.lsys_pass.proofs.Keepers.{are_made, stay_kept, stored_rest}
@@ -78,6 +79,7 @@ is_resting f st reads seats z system limit w answers stored few unmarked counted
   made_sized = none;
   holds = record {
     rest = rest;
+    runs = own_runs (now_of f) (changes_in f) f.root st stored still;
     changes = still;
     next = refl;
     reads = quiet;

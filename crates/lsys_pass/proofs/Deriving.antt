@@ -1,6 +1,6 @@
 -- A pass at rest has the levels of its system.
-use Rattle.std.proofs.Common.{◌≡◌, ◌+◌, ◌-◌, ◌<◌, ◌≤◌, ℕ, suc, List, [], ◌∷◌, length, map, get_or, slice_get, Some, refl, sym, ap, ◌∙◌, subst, inl, inr, arith}
-use Rattle.std.specs.Prelude.{sum_by}
+use Rattle.std.proofs.Common.{◌≡◌, ◌+◌, ◌-◌, ◌<◌, ◌≤◌, ◌⊎◌, ℕ, zero, suc, List, [], ◌∷◌, length, map, get_or, slice_get, Option, Some, None, refl, sym, ap, ◌∙◌, subst, inl, inr, arith}
+use Rattle.std.specs.Prelude.{sum_by, IsSome}
 use Rattle.std.proofs.lemmas.Bool.{cases_lt}
 use Rattle.std.proofs.lemmas.List.{length-map, length-take-le, get_or_past}
 use Rattle.std.proofs.lemmas.List.Sums.{sum_by-cons}
@@ -14,7 +14,9 @@ use Rattle.lsys_match.specs.Kept.{Kept}
 use Rattle.lsys_match.specs.Derivations.{StandsFor, IsDerived, symbol_at}
 use Rattle.lsys_walks.specs.Stores.{Store}
 use Rattle.lsys_reads.specs.Relations.{Relations}
-use Rattle.lsys_forest.specs.Nodes.{Nodes}
+use Rattle.lsys_spec.specs.Rows.{In}
+use Rattle.lsys_forest.specs.Nodes.{Node, Nodes}
+use Rattle.lsys_forest.specs.Groves.{IsAtRest, ReachedIn}
 use Rattle.lsys_forest.specs.Changes.{Change, undone}
 use Rattle.lsys_forest.specs.Rows.{spot_in, level_nodes, level_spots, complete_levels, AreBalancedTo}
 use Rattle.lsys_forest.proofs.ViewLemmas.{are_told, told_is}
@@ -27,9 +29,9 @@ use Rattle.lsys_pass.specs.declared.state.PassState.TheVariants.{Rest}
 use Rattle.lsys_pass.specs.Rests.{IsResting}
 use Rattle.lsys_pass.specs.Sizes.{symbols_at, total_of, HaveSizes}
 use Rattle.lsys_pass.specs.Passes.{PassView, stage_of, now_in, rest_in, IsStill, HoldsAt, IsPass}
-use Rattle.lsys_pass.specs.Views.{pass_levels, view_of, IsQuiet}
+use Rattle.lsys_pass.specs.Views.{pass_levels, view_of, IsQuiet, KeepsLevelsAlone, AnswersItsQuestions, KeepsNoOtherAnswer}
 use Rattle.lsys_pass.proofs.Backing.{rests_at}
-use Rattle.lsys_pass.proofs.Before.{no_more}
+use Rattle.lsys_pass.proofs.Before.{no_more, reached_on}
 use Rattle.lsys_pass.proofs.Limits.{within}
 use Rattle.lsys_pass.proofs.Viewing.{Shows, shows, spot_told, row_is, there, own, node_there, below}
 
@@ -209,3 +211,33 @@ module _ (v : PassView) (h : IsPass v) (q : IsQuiet v) where
         | inl l ↦ nodes_at t l
         | inr g ↦ ap (length {A = ℕ}) (none_behind t g) ∙ sym (ap (length {A = Spotted}) (none_at t g))
       ]
+
+  -- 6. what is kept
+
+  live_on : (k : ℕ) (n : Node Kept) → now_in v k ≡ Some n → (k ≡ v.forest.root) ⊎ ((t : ℕ) × (t ≤ v.system.depth) × In k (level_nodes (now_in v) v.forest.root t))
+  live_on k n e = by (r.reached k n e).0 (r.reached k n e).1
+    where
+      by : (d : ℕ) → ReachedIn (now_in v) v.forest.root d k → (k ≡ v.forest.root) ⊎ ((t : ℕ) × (t ≤ v.system.depth) × In k (level_nodes (now_in v) v.forest.root t))
+      by zero h = inl h
+      by (suc t) h =
+          let on = reached_on (now_in v) v.forest.root t k h in
+          elim (cases_lt t (v.system.depth + 1)) [
+            | inl l ↦ inr (t, omega (arith, l), on)
+            | inr g ↦ absurd (subst (In k) (none_behind t g) on)
+          ]
+
+  pub levels_alone : KeepsLevelsAlone v
+  levels_alone k l = by (now_in v k) refl l
+    where
+      by : (o : Option (Node Kept)) → now_in v k ≡ o → IsSome o → (k ≡ v.forest.root) ⊎ ((t : ℕ) × (t ≤ v.system.depth) × In k (level_nodes (now_in v) v.forest.root t))
+      by None e i = cc
+      by (Some n) e i = live_on k n e
+
+  pub answers_all : AnswersItsQuestions v
+  answers_all = r.answered
+
+  pub no_others : KeepsNoOtherAnswer v
+  no_others = r.others
+
+  pub unchanged : IsAtRest v.forest
+  unchanged = (still v h q.state).changes

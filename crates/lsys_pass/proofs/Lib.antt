@@ -24,6 +24,8 @@ pub mod Numbering
 pub mod Refusing
 pub mod Finishing
 pub mod Limits
+pub mod Telling
+pub mod Exact
 pub mod Making
 pub mod Arrivals
 pub mod NextLengths

@@ -5,7 +5,7 @@ use Rattle.std.proofs.lemmas.Bool.Decides.{nat_tests}
 use Rattle.std.proofs.lemmas.List.Sums.{sum_by-cons}
 use Rattle.lsys_spec.specs.Systems.{System}
 use Rattle.lsys_spec.specs.Levels.{LevelSymbol}
-use Rattle.lsys_spec.specs.Meaning.{OverLimit, first_level, next_level, last_level, within_limit, meaning_to, meaning}
+use Rattle.lsys_spec.specs.Meaning.{OverLimit, first_level, next_level, last_level, within_limit, meaning_to}
 use Rattle.lsys_spec.proofs.LevelInduction.{ok_parts}
 use Rattle.lsys_change.proofs.UpTo.{level_count}
 use Rattle.lsys_level.specs.Spots.{named}
@@ -13,10 +13,11 @@ use Rattle.lsys_forest.specs.Groves.{changes_in}
 use Rattle.lsys_forest.specs.Rows.{spot_in, level_nodes, level_spots}
 use Rattle.lsys_forest.proofs.RowLemmas.{level_apart}
 use Rattle.lsys_kept.specs.Lineages.{names}
-use Rattle.lsys_kept.specs.Meant.{meant_to}
+use Rattle.lsys_kept.specs.Meant.{meant_to, level_to}
 use Rattle.lsys_repair.specs.Answers.{kept_successors, AreAnswered}
 use Rattle.lsys_repair.proofs.Finishing.{answered_level}
-use Rattle.lsys_repair.proofs.Lengths.{over_count}
+use Rattle.lsys_repair.proofs.Nexts.{last_there}
+use Rattle.lsys_repair.proofs.Lengths.{next_is, over_level}
 use Rattle.lsys_pass.specs.declared.sizes.Size.{Size}
 use Rattle.lsys_pass.specs.declared.state.PassState.TheVariants.{Level}
 use Rattle.lsys_pass.specs.Sizes.{symbols_at, total_of, HaveSizesTo, SizesAt}
@@ -97,19 +98,29 @@ module _ (v : PassView) (t : ℕ) (h : IsPass v) (state : v.state ≡ Level t) (
     answered = λ p k e. all_answered s t a t p k (omega arith) e;
   }
 
-  -- the next level is over the limit
-  pub over_next : (n : ℕ) → n ≡ symbols_wanted s t → v.limit < total_of v.made + n → meaning v.next v.limit ≡ Err (OverLimit (t + 1))
+  -- the next level is there
+  pub next_there : (y : List LevelSymbol) × (next_level v.next t (level_to v.next v.limit t) ≡ Ok y)
+  next_there = (
+    _,
+    ap (next_level v.next t) (sym (last_there (meant_to v.next v.limit t) t count))
+        ∙ next_is v.next v.limit t (now_in v) v.forest.root (kept_successors (now_in v)) (answered_level v.next v.limit t (now_in v) v.forest.root v.store are_answered),
+  )
+
+  -- or it is over the limit
+  pub over_next : (n : ℕ) → n ≡ symbols_wanted s t → v.limit < total_of v.made + n → meaning_to v.next v.limit (t + 1) ≡ Err (OverLimit (t + 1))
   over_next n e l =
       let total = total_is in
-      over_count v.next v.limit t (now_in v) v.forest.root (kept_successors (now_in v)) (answered_level v.next v.limit t (now_in v) v.forest.root v.store are_answered)
-      (level_apart v.forest.root (changes_in v.forest) (now_in v) (sound_now v t h state) t) (omega (arith, e, l, total)) a.at.tree.below
+      let here : suc t ≡ t + 1 = omega arith in
+      subst (λ n. meaning_to v.next v.limit n ≡ Err (OverLimit n)) here (over_level v.next v.limit t (now_in v) v.forest.root (kept_successors (now_in v)) (answered_level v.next v.limit t (now_in v) v.forest.root v.store are_answered)
+      (level_apart v.forest.root (changes_in v.forest) (now_in v) (sound_now v t h state) t) (omega (arith, e, l, total)))
 
--- 3. the same, as another view of the pass tells it
-
--- 4. a level of which all was asked
+-- 3. a level of which all was asked
 
 pub total_asked : (v : PassView) (t : ℕ) → WasAsked v t → total_of v.made ≤ v.limit
 total_asked v t a = total_within (record v { state = Level t }) t a.pass refl a.asked
 
-pub over_asked : (v : PassView) (t : ℕ) → WasAsked v t → (n : ℕ) → n ≡ symbols_wanted (stage_of v) t → v.limit < total_of v.made + n → meaning v.next v.limit ≡ Err (OverLimit (t + 1))
+pub over_asked : (v : PassView) (t : ℕ) → WasAsked v t → (n : ℕ) → n ≡ symbols_wanted (stage_of v) t → v.limit < total_of v.made + n → meaning_to v.next v.limit (t + 1) ≡ Err (OverLimit (t + 1))
 over_asked v t a n e l = over_next (record v { state = Level t }) t a.pass refl a.asked n e l
+
+pub there_asked : (v : PassView) (t : ℕ) → WasAsked v t → (y : List LevelSymbol) × (next_level v.next t (level_to v.next v.limit t) ≡ Ok y)
+there_asked v t a = next_there (record v { state = Level t }) t a.pass refl a.asked

@@ -1,5 +1,5 @@
 -- What a queue has left, by halves.
-use Rattle.std.proofs.Common.{◌≡◌, ◌≢◌, ◌<◌, ◌≤◌, ◌+◌, ◌-◌, ◌/◌, ℕ, zero, suc, List, [], ◌∷◌, ◌++◌, length, take, drop, map, Option, Some, None, slice_get, slice_index_or, refl, sym, ap, ◌∙◌, subst, arith, drop-cons, slice_set, append_assoc, length-append, length-drop}
+use Rattle.std.proofs.Common.{◌≡◌, ◌≢◌, ◌<◌, ◌≤◌, ◌+◌, ◌-◌, ◌/◌, ℕ, zero, suc, Bool, true, false, List, [], ◌∷◌, ◌++◌, length, take, drop, map, Option, Some, None, slice_get, slice_index_or, get_or, refl, sym, ap, ◌∙◌, subst, arith, drop-cons, slice_set, append_assoc, length-append, length-drop}
 use Rattle.std.specs.List.{remove, cons_option}
 use Rattle.std.proofs.Math.Seq.{drop-append-add}
 use Rattle.std.proofs.lemmas.List.{take-append-drop, take_all, take_at, drop_all, append-nil, take-set, drop-set, take_more, take-map, drop-map, length-map, length-take-le}
@@ -8,7 +8,7 @@ use Rattle.std.proofs.lemmas.List.Edits.{remove-append_left, remove-append_right
 use Rattle.std.proofs.lemmas.List.Elements.{filter_map-append}
 use Rattle.std.proofs.lemmas.Option.{none-some, same_Some, slice_get_read, slice_get-get_or, slice_get_within}
 use Rattle.lsys_pass.specs.declared.queue.Slot.{Slot}
-use Rattle.lsys_pass.specs.Queues.{those_left, fresh_slot, AreCounted, InHalves}
+use Rattle.lsys_pass.specs.Queues.{those_left, fresh_slot, AreCounted, InHalves, IsQueue}
 
 -- 1. lists
 
@@ -285,9 +285,102 @@ fresh_counted (suc n) nodes h =
     (λ some. let fits = length-take-le (length part / 2) nodes (omega (arith, size, some)) in subst AreCounted (sym first) (fresh_counted n (take (length part / 2) nodes) (omega (arith, h, some, size, fits))))
     (λ some. let fits = length-drop (length part / 2 + 1) nodes in subst AreCounted (sym rest) (fresh_counted n (drop (length part / 2 + 1) nodes) (omega (arith, h, some, size, fits))))
 
-pub record IsFilled (slots : List Slot) (nodes : List ℕ) : Type 0 where
-  pub counted : AreCounted slots
-  pub left : those_left slots ≡ nodes
+zero_more : (i : ℕ) → 0 + i ≡ i
+zero_more i = omega arith
 
-pub filled : (slots : List Slot) (nodes : List ℕ) → slots ≡ map fresh_slot nodes → IsFilled slots nodes
-filled slots nodes is = record { counted = subst AreCounted (sym is) (fresh_counted (suc (length nodes)) nodes (omega arith)); left = ap those_left is ∙ those_fresh nodes }
+fresh_slot_is : (nodes : List ℕ) (i : ℕ) (s : Slot) → slice_get (map fresh_slot nodes) i ≡ Some s → slice_get nodes i ≡ s.node
+fresh_slot_is [] i s h = absurd (none-some s h)
+fresh_slot_is (k ∷ nodes) zero s h = ap (λ (x : Slot). x.node) (same_Some _ _ h)
+fresh_slot_is (k ∷ nodes) (suc i) s h = fresh_slot_is nodes i s h
+
+pub filled_left : (slots : List Slot) (nodes : List ℕ) → slots ≡ map fresh_slot nodes → those_left slots ≡ nodes
+filled_left slots nodes is = ap those_left is ∙ those_fresh nodes
+
+pub filled : (slots : List Slot) (nodes : List ℕ) → slots ≡ map fresh_slot nodes → IsQueue slots 0 (length nodes) true
+filled slots nodes is =
+    let left = filled_left slots nodes is in
+    record {
+      counted = subst AreCounted (sym is) (fresh_counted (suc (length nodes)) nodes (omega arith));
+      size = ap length (sym left);
+      within = omega arith;
+      fresh = λ _. is ∙ ap (map fresh_slot) (sym left);
+    }
+
+-- 6. the first ones
+
+no_more : (o : Option ℕ) (xs : List ℕ) → length (cons_option o xs) ≤ suc (length xs)
+no_more None xs = omega arith
+no_more (Some k) xs = omega arith
+
+few_left : (slots : List Slot) → length (those_left slots) ≤ length slots
+few_left [] = omega arith
+few_left (s ∷ slots) =
+    let less = few_left slots in
+    let one = no_more s.node (those_left slots) in
+    let same = ap (length {A = ℕ}) (those_around [] s slots) in
+    omega (arith, less, one, same)
+
+more : (n i : ℕ) → suc (n + i) ≡ suc n + i
+more n i = omega arith
+
+get_drop : (n : ℕ) (xs : List ℕ) (i : ℕ) → slice_get (drop n xs) i ≡ slice_get xs (n + i)
+get_drop zero xs i = ap (slice_get xs) (sym (zero_more i))
+get_drop (suc n) [] i = refl
+get_drop (suc n) (x ∷ xs) i = get_drop n xs i ∙ ap (slice_get (x ∷ xs)) (more n i)
+
+none_removed : (i : ℕ) → remove {X = ℕ} [] i ≡ []
+none_removed zero = refl
+none_removed (suc i) = refl
+
+drop_remove : (n : ℕ) (xs : List ℕ) (i : ℕ) → drop n (remove xs (n + i)) ≡ remove (drop n xs) i
+drop_remove zero xs i = ap (remove xs) (zero_more i)
+drop_remove (suc n) [] i = ap (drop (suc n)) (none_removed (suc n + i)) ∙ sym (none_removed i)
+drop_remove (suc n) (x ∷ xs) i = ap (λ k. drop (suc n) (remove (x ∷ xs) k)) (sym (more n i)) ∙ drop_remove n xs i
+
+drop_next : (n : ℕ) (xs : List ℕ) → drop (suc n) xs ≡ remove (drop n xs) 0
+drop_next zero xs = refl
+drop_next (suc n) [] = refl
+drop_next (suc n) (x ∷ xs) = drop_next n xs
+
+module _ (slots : List Slot) (start end : ℕ) (whole : Bool) (q : IsQueue slots start end whole) where
+  pub in_it : length (drop start (those_left slots)) ≡ end - start
+  in_it = let l = length-drop start (those_left slots) in omega (arith, q.size, l)
+
+  pub within_end : (place : ℕ) → place < length (drop start (those_left slots)) → start + place < end
+  within_end place l = omega (arith, q.within, in_it, l)
+
+  pub within_slots : (place : ℕ) → place < length (drop start (those_left slots)) → start + place < length slots
+  within_slots place l = let few = few_left slots in let at = within_end place l in omega (arith, at, few, q.size)
+
+  pub nth_is : (place k : ℕ) → slice_get (those_left slots) (start + place) ≡ Some k → slice_get (drop start (those_left slots)) place ≡ Some k
+  nth_is place k h = get_drop start (those_left slots) place ∙ h
+
+  -- each slot has its node
+  pub slot_read : whole ≡ true → (place : ℕ) → place < length (drop start (those_left slots)) → (found : List Slot) → found ≡ slots → (d : Slot) (o : Option ℕ) → (get_or found (start + place) d).node ≡ o → slice_get (drop start (those_left slots)) place ≡ o
+  slot_read w place l found same d o h =
+      let at = start + place in
+      let here : slice_get slots at ≡ Some (get_or slots at d) = slice_get-get_or slots at d (within_slots place l) in
+      get_drop start (those_left slots) place
+      ∙ fresh_slot_is (those_left slots) at (get_or slots at d) (ap (λ (x : List Slot). slice_get x at) (sym (q.fresh w)) ∙ here)
+      ∙ ap (λ (x : List Slot). (get_or x at d).node) (sym same)
+      ∙ h
+
+  pub node_there : (place : ℕ) → place < length (drop start (those_left slots)) → slice_get (drop start (those_left slots)) place ≡ None → ⊥
+  node_there place l none = none-some (get_or (drop start (those_left slots)) place 0) (sym none ∙ slice_get-get_or (drop start (those_left slots)) place 0 l)
+
+  pub first_off : 0 < length (drop start (those_left slots)) → IsQueue slots (start + 1) end whole
+  first_off l = record { counted = q.counted; size = q.size; within = omega (arith, in_it, l); fresh = q.fresh }
+
+  pub first_gone : drop (start + 1) (those_left slots) ≡ remove (drop start (those_left slots)) 0
+  first_gone = ap (λ n. drop n (those_left slots)) (let e : start + 1 ≡ suc start = omega arith in e) ∙ drop_next start (those_left slots)
+
+  module _ (new : List Slot) (place : ℕ) (within : place < length (drop start (those_left slots))) (counted : AreCounted new) (taken : those_left new ≡ remove (those_left slots) (start + place)) where
+    pub any_off : IsQueue new start (end - 1) false
+    any_off =
+        let at = within_end place within in
+        let less = length-remove (those_left slots) (start + place) (omega (arith, at, q.size)) in
+        let same = ap (length {A = ℕ}) taken in
+        record { counted = counted; size = omega (arith, q.size, less, same); within = omega (arith, at); fresh = λ w. cc }
+
+    pub any_gone : drop start (those_left new) ≡ remove (drop start (those_left slots)) place
+    any_gone = ap (drop start) taken ∙ drop_remove start (those_left slots) place

@@ -3,10 +3,9 @@ use Rattle.std.proofs.Common.{◌≡◌, ◌+◌, ◌<◌, ◌^◌, ℕ, zero, s
 use Rattle.std.specs.Prelude.{IsSome, nat_eq, option_map, MatchOption}
 use Rattle.std.proofs.lemmas.Bool.Decides.{nat_tests}
 use Rattle.std.proofs.lemmas.Option.{none-some, same_Some, slice_get-map, slice_get_within}
-use Rattle.lsys_match.specs.Derivations.{IsLevelRefusal}
 use Rattle.lsys_spec.specs.Rows.{In}
 use Rattle.lsys_spec.specs.Levels.{LevelSymbol, Module}
-use Rattle.lsys_spec.specs.Meaning.{FaultAt, meaning, successor, replacement}
+use Rattle.lsys_spec.specs.Meaning.{FaultAt, next_level, last_level, successor, replacement}
 use Rattle.lsys_rewrite.specs.Faults.{fault_of}
 use Rattle.lsys_rewrite.specs.declared.refusal.FaultKind.{FaultKind}
 use Rattle.lsys_rewrite.specs.declared.refusal.DeriveRefusal.{DeriveRefusal}
@@ -27,14 +26,15 @@ use Rattle.lsys_kept.specs.Levels.{AnsweredAt, level_of}
 use Rattle.lsys_kept.specs.Meant.{meant_to, level_to}
 use Rattle.lsys_repair.specs.Nexts.{node_symbol, count_kind, module_nodes, HasFirstFault}
 use Rattle.lsys_repair.specs.Answers.{kept_successors}
-use Rattle.lsys_repair.proofs.Nexts.{level_symbols}
+use Rattle.lsys_repair.proofs.Nexts.{level_symbols, last_there}
 use Rattle.lsys_repair.proofs.Replaced.{replaced}
-use Rattle.lsys_repair.proofs.Refused.{fault_next}
+use Rattle.lsys_repair.proofs.Refused.{fault_level}
 use Rattle.lsys_pass.specs.declared.fault.Faulted.{Faulted}
 use Rattle.lsys_pass.specs.declared.state.PassState.TheVariants.{Level}
 use Rattle.lsys_pass.specs.Leftmost.{AreOnLevel, IsFirstAt, IsLeftmostFault, is_one, modules_before}
 use Rattle.lsys_pass.specs.Stages.{Stage, fault_in, IsNoted, HasFault, OutcomeBy, IsAtLevel}
 use Rattle.lsys_pass.specs.Passes.{PassView, stage_of, now_in, IsPass}
+use Rattle.lsys_pass.specs.Refusals.{IsFaultOn}
 use Rattle.lsys_pass.proofs.Needed.{level_is_meant}
 use Rattle.lsys_pass.proofs.Asking.{Stands, stands, there_at, at, sound_now, balanced_now}
 use Rattle.lsys_pass.proofs.Outcomes.{one_place}
@@ -182,18 +182,19 @@ module _ (v : PassView) (t : ℕ) (h : IsPass v) (state : v.state ≡ Level t) w
           ∙ ap (λ (l : List ℕ). modules_before (map (λ j. spot_in j (now_in v j)) l) (length st.before) + 1) st.whole
           ∙ ap (λ i. i + 1) (before_are (now_in v) st.before f.first.node st.after)
 
-      pub refuses : meaning v.next v.limit ≡ Err (FaultAt (fault_of kind) u n)
+      pub refuses : next_level v.next t (level_to v.next v.limit t) ≡ Err (FaultAt (fault_of kind) u n)
       refuses =
-          fault_next v.next v.limit t (now_in v) v.forest.root (kept_successors (now_in v)) st.before f.first.node st.after (fault_of f.first.kind) first_fault a.tree.below
+          ap (next_level v.next t) (sym (last_there (meant_to v.next v.limit t) t (level_count v.next v.limit t (meant_to v.next v.limit t) a.tree.spelled a.tree.is)))
+          ∙ fault_level v.next v.limit t (now_in v) v.forest.root (kept_successors (now_in v)) st.before f.first.node st.after (fault_of f.first.kind) first_fault
           ∙ ap (λ i. Err (FaultAt (fault_of f.first.kind) t i)) (sym number_is)
           ∙ ap (λ k. Err (FaultAt (fault_of k) t n)) (sym f.kind_is)
           ∙ ap (λ w. Err (FaultAt (fault_of kind) w n)) (sym f.level)
 
-    pub refuses_by : (r : DeriveRefusal) → IsLeftmostFault v.forest t v.faults r → IsLevelRefusal v.next v.limit r
+    pub refuses_by : (r : DeriveRefusal) → IsLeftmostFault v.forest t v.faults r → IsFaultOn v.next v.limit t r
     refuses_by (Fault kind u n) f = refuses kind u n f
-    refuses_by (Limit u) f = absurd f
-    refuses_by Memory f = tt
+    refuses_by (Limit u) f = f
+    refuses_by Memory f = f
 
-    pub refuses_if : (o : Option DeriveRefusal) → MatchOption o (v.faults ≡ []) (IsLeftmostFault v.forest t v.faults) → MatchOption o (v.faults ≡ []) (IsLevelRefusal v.next v.limit)
+    pub refuses_if : (o : Option DeriveRefusal) → MatchOption o (v.faults ≡ []) (IsLeftmostFault v.forest t v.faults) → MatchOption o (v.faults ≡ []) (IsFaultOn v.next v.limit t)
     refuses_if None e = e
     refuses_if (Some r) f = refuses_by r f

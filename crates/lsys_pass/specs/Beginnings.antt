@@ -1,6 +1,5 @@
 -- The first level of another system, made from a pass at rest.
 use Rattle.std.specs.Prelude.{◌≡◌, ◌≢◌, ◌≤◌, ◌∷◌, [], ℕ, List, map, false, Option, None, Some, MatchOption}
-use Rattle.lsys_match.specs.Derivations.{IsLevelRefusal}
 use Rattle.lsys_spec.specs.Systems.{System, WellSpelled}
 use Rattle.lsys_rewrite.specs.declared.refusal.DeriveRefusal.{DeriveRefusal}
 use Rattle.lsys_match.specs.Kept.{Kept}
@@ -20,6 +19,7 @@ use Rattle.lsys_front.specs.Fronts.{nothing}
 use Rattle.lsys_pass.specs.declared.state.PassState.TheVariants.{Rest}
 use Rattle.lsys_pass.specs.Passes.{PassView, now_in, rest_in, IsPass}
 use Rattle.lsys_pass.specs.Moves.{ArrivesAt}
+use Rattle.lsys_pass.specs.Refusals.{IsFirstRefusal}
 
 -- 1. the forest
 
@@ -65,7 +65,7 @@ need_for_axiom s f = need_for s.numbering (now_of f) (kids_in (now_of f f.root))
 abbrev pub RefusesLongAxiom : ℕ → ℕ → Option DeriveRefusal → Type 0
 RefusesLongAxiom limit symbols r =
     (s : System) → symbols ≡ wanted_count s.numbering s.axiom_string
-    → MatchOption r (symbols ≤ limit) (IsLevelRefusal s limit)
+    → MatchOption r (symbols ≤ limit) (IsFirstRefusal s limit)
 
 -- 2. the pass
 

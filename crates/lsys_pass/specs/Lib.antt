@@ -20,3 +20,4 @@ pub mod Made
 pub mod Queues
 pub mod NextParents
 pub mod SeatedAnew
+pub mod Refusals

@@ -94,9 +94,7 @@ abbrev pub MovesBoth : PassView → ℕ → ℕ → ℕ → ℕ → ℕ → Type
 MovesBoth v node asked asked' visited visited' =
     MovesOnce v node (λ asks reads. (asked' ≡ asked + asks) × (visited' ≡ visited + reads))
 
--- 2. why a system has no levels
-
--- 3. the levels
+-- 2. the levels
 
 -- it stands at this level, or it is done where this is the last one
 abbrev pub ArrivesAt : System → ℕ → PassState → Type 0
@@ -123,7 +121,7 @@ pub record Fails (old new : PassView) : Type 0 where
   pub run : SameRun old new
   pub state : new.state ≡ Failed
 
--- 4. the end
+-- 3. the end
 
 -- it is at rest with the new system, and the nodes that are reached are what they were
 pub record ComesToRest (old new : PassView) : Type 0 where

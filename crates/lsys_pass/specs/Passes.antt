@@ -79,9 +79,20 @@ AnswersStay old new = (k : ℕ) → answer_at (now_in new) k ≡ answer_at (now_
 abbrev pub rest_in : PassView → Nodes Kept
 rest_in v = rest_of v.forest
 
--- nothing has changed since the last rest, and nothing is kept of an edit
+-- The runs of a store that are live are those that answers of nodes hold.
+pub record AreOwnRuns (m : Nodes Kept) (store : Store) : Type 0 where
+  pub live : (k : ℕ) (a : Kept) (r : RunName) → answer_at m k ≡ Some a → holds a r
+      → IsSome (run_in store r)
+  pub only : (r : RunName) → ((k : ℕ) (a : Kept) → answer_at m k ≡ Some a → holds a r → ⊥)
+      → run_in store r ≡ None
+
+abbrev pub HasOwnRuns : PassView → Type 0
+HasOwnRuns v = AreOwnRuns (now_in v) v.store
+
+-- nothing has changed since the last rest, and nothing is kept of an edit, nor any run that no answer holds
 pub record IsStill (s : Stage) : Type 0 where
   pub rest : Rests s
+  pub runs : AreOwnRuns s.now s.store
   pub changes : s.changes ≡ []
   pub next : s.next ≡ s.system
   pub reads : s.reads.pending ≡ []
@@ -131,13 +142,6 @@ FrontAt v Rest = Unit {0}
 FrontAt v (Level t) = HasFront v t
 FrontAt v Done = AllHaveSeats (now_in v) v.seats
 FrontAt v Failed = Unit {0}
-
--- the runs of the store that are live are those that answers of nodes hold
-pub record HasOwnRuns (v : PassView) : Type 0 where
-  pub live : (k : ℕ) (a : Kept) (r : RunName) → answer_at (now_in v) k ≡ Some a → holds a r
-      → IsSome (run_in v.store r)
-  pub only : (r : RunName) → ((k : ℕ) (a : Kept) → answer_at (now_in v) k ≡ Some a → holds a r → ⊥)
-      → run_in v.store r ≡ None
 
 -- what holds between calls; no node is marked then
 pub record IsPass (v : PassView) : Type 0 where

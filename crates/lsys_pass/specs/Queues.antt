@@ -1,5 +1,5 @@
 -- Nodes that are still to be asked, and how many are gone.
-use Rattle.std.specs.Prelude.{◌≡◌, ◌<◌, ◌+◌, ◌/◌, ℕ, List, Some, length, take, drop, slice_get}
+use Rattle.std.specs.Prelude.{◌≡◌, ◌<◌, ◌≤◌, ◌+◌, ◌/◌, ℕ, Bool, true, List, Some, length, map, take, drop, slice_get}
 use Rattle.std.specs.List.{filter_map}
 use Rattle.lsys_pass.specs.declared.queue.Slot.{Slot}
 
@@ -23,3 +23,11 @@ pub data AreCounted : List Slot → Type 0 where
       → (0 < length part → AreCounted (take (length part / 2) part))
       → (0 < length part → AreCounted (drop (length part / 2 + 1) part))
       → AreCounted part
+
+-- The slots of a queue, which has of those that are left in them the ones from a place on; and how many these are. And whether each
+-- slot has its node.
+pub record IsQueue (slots : List Slot) (start end : ℕ) (whole : Bool) : Type 0 where
+  pub counted : AreCounted slots
+  pub size : end ≡ length (those_left slots)
+  pub within : start ≤ end
+  pub fresh : whole ≡ true → slots ≡ map fresh_slot (those_left slots)

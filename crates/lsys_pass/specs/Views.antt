@@ -1,5 +1,6 @@
 -- What a contract sees of a derivation whose levels stand in a forest.
-use Rattle.std.specs.Prelude.{◌≡◌, ◌<◌, ◌+◌, ◌^◌, ℕ, zero, suc, List, [], ◌∷◌, ◌++◌, Option, length, map, take, cond, nat_lt, Ok}
+use Rattle.std.specs.Prelude.{◌≡◌, ◌<◌, ◌≤◌, ◌+◌, ◌^◌, ◌⊎◌, ℕ, zero, suc, List, [], ◌∷◌, ◌++◌, Option, Some, None, length, map, take, cond, nat_lt, Ok, slice_get}
+use Rattle.lsys_spec.specs.Rows.{In}
 use Rattle.lsys_spec.specs.Systems.{System}
 use Rattle.lsys_spec.specs.Levels.{LevelSymbol}
 use Rattle.lsys_spec.specs.Meaning.{meaning}
@@ -7,7 +8,9 @@ use Rattle.lsys_spec.specs.Questions.{questions}
 use Rattle.lsys_level.specs.Spots.{Spotted, spots_at}
 use Rattle.lsys_match.specs.Kept.{Kept}
 use Rattle.lsys_forest.specs.Nodes.{Node, Nodes}
+use Rattle.lsys_forest.specs.Groves.{IsLive}
 use Rattle.lsys_forest.specs.Rows.{index_in, level_nodes, complete_levels}
+use Rattle.lsys_kept.specs.Levels.{AnsweredAt, answer_at}
 use Rattle.lsys_pass.specs.declared.state.PassState.TheVariants.{Rest}
 use Rattle.lsys_pass.specs.Passes.{PassView, now_in}
 
@@ -68,3 +71,24 @@ pub record IsQuiet (v : PassView) : Type 0 where
 abbrev pub CountsAnswered : ForestView → ℕ → Type 0
 CountsAnswered v n =
     (x : List (List LevelSymbol)) → meaning v.system v.limit ≡ Ok x → n ≡ length (questions v.system x)
+
+-- 3. what its pass keeps
+
+-- no node lives but the root, and those of the levels up to the system's depth
+abbrev pub KeepsLevelsAlone : PassView → Type 0
+KeepsLevelsAlone v =
+    (k : ℕ) → IsLive v.forest k
+    → (k ≡ v.forest.root)
+    ⊎ ((t : ℕ) × (t ≤ v.system.depth) × In k (level_nodes (now_in v) v.forest.root t))
+
+-- each node above the last level keeps an answer exactly where it has a question, and it is the answer to that
+abbrev pub AnswersItsQuestions : PassView → Type 0
+AnswersItsQuestions v =
+    (t p k : ℕ) → t < v.system.depth → slice_get (level_nodes (now_in v) v.forest.root t) p ≡ Some k
+    → AnsweredAt v.system t (now_in v) v.forest.root v.store p k
+
+-- the root has no question, nor has a node of the last level, and they keep no answers
+abbrev pub KeepsNoOtherAnswer : PassView → Type 0
+KeepsNoOtherAnswer v =
+    (k : ℕ) → (k ≡ v.forest.root) ⊎ In k (level_nodes (now_in v) v.forest.root v.system.depth)
+    → answer_at (now_in v) k ≡ None

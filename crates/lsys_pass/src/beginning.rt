@@ -1,5 +1,6 @@
 //! The first level of another system.
-ghost use Rattle.std.specs.Prelude.{◌≡◌, ◌<◌, ◌^◌, ℕ, [], length, IfOk, IfErr, OnOk, OnErr};
+ghost use Rattle.std.specs.Prelude.{◌≡◌, ◌<◌, ◌≤◌, ◌^◌, ℕ, [], length, IfOk, IfErr, OnOk, OnErr};
+ghost use Rattle.lsys_spec.specs.Meaning.{first_level};
 ghost use Rattle.lsys_match.specs.Derivations.{IsLevelRefusal};
 ghost use Rattle.lsys_change.specs.Nodes.{AreOnce};
 ghost use Rattle.lsys_forest.specs.Groves.{AreSound, IsLive, now_of, rest_of, changes_in, kept_in, live_nodes};
@@ -9,12 +10,13 @@ ghost use Rattle.lsys_repair.specs.Renewals.{AreSmall, AreAllUnder};
 ghost use Rattle.lsys_front.specs.LooksFrom.{first_nodes};
 ghost use Rattle.lsys_pass.specs.declared.state.PassState.TheVariants.{Rest, Failed};
 ghost use Rattle.lsys_pass.specs.Sizes.{with_level};
-ghost use Rattle.lsys_pass.specs.Passes.{stage_of};
+ghost use Rattle.lsys_pass.specs.Passes.{stage_of, HasOwnRuns};
 ghost use Rattle.lsys_pass.specs.Moves.{SameRun, ArrivesAt, IsBack};
 ghost use Rattle.lsys_pass.specs.Fresh.{row_of, Goes, WasJustMade};
 ghost use Rattle.lsys_pass.specs.Beginnings.{Begun, KeepsNodes, WasStill, MakesFirstIn, MakesFirstUnder, need_for_axiom};
 ghost use Rattle.lsys_pass.specs.Made.{IsFirstFront, AddsLevel};
 ghost use Rattle.lsys_pass.specs.Spent.{AllPending};
+ghost use Rattle.lsys_pass.specs.Refusals.{RefusesFirst, IsFirstRefusal};
 
 use crate::keep::target;
 use crate::pass::Pass;
@@ -46,7 +48,9 @@ impl<L: Ledger> Pass<L> {
         ensures begins { OnOk result (Begun self.old self.new system) }
         ensures all { OnOk result (AllPending self.new self.new.state) }
         ensures back { OnErr result (IsBack self.old self.new) }
+        ensures runs { OnErr result (HasOwnRuns self.new) }
         ensures refusal { IfErr result (IsLevelRefusal system self.old.limit) }
+        ensures exact { RefusesFirst system self.old.limit result }
     {
         self.next = Some(system);
         self.state = PassState::Failed;
@@ -69,7 +73,8 @@ impl<L: Ledger> Pass<L> {
         ensures all { OnOk result (AllPending self.new self.new.state) }
         ensures renewed { OnOk result (self.new.renewed ≡ []) }
         ensures fails { OnErr result (self.new.state ≡ Failed) }
-        ensures refusal { IfErr result (IsLevelRefusal self.old.next self.old.limit) }
+        ensures within { OnOk result (length (first_level self.old.next) ≤ self.old.limit) }
+        ensures refusal { IfErr result (IsFirstRefusal self.old.next self.old.limit) }
         ensures run { SameRun self.old self.new }
     {
         let depth = self.depth();
@@ -90,7 +95,8 @@ impl<L: Ledger> Pass<L> {
         ensures goes { OnOk result (Goes (stage_of self.old) (stage_of self.new) 0) }
         ensures made { OnOk result
             (self.new.made ≡ with_level [] (length (row_of self.new 0))) }
-        ensures refusal { IfErr result (IsLevelRefusal self.old.next self.old.limit) }
+        ensures within { OnOk result (length (first_level self.old.next) ≤ self.old.limit) }
+        ensures refusal { IfErr result (IsFirstRefusal self.old.next self.old.limit) }
         ensures run { SameRun self.old self.new }
         ensures state { self.new.state ≡ Failed }
     {
@@ -182,7 +188,7 @@ fn make_first_nodes<L: Ledger>(
     requires under { AreAllUnder (now_of forest.old) forest.old.root forest.old.root }
     requires few { live_nodes forest.old < 2 ^ 32 }
     ensures made { IfOk result (MakesFirstIn system.now limit forest.old forest.new) }
-    ensures refusal { IfErr result (IsLevelRefusal system.now limit) }
+    ensures refusal { IfErr result (IsFirstRefusal system.now limit) }
     ensures stays { OnErr result (KeepsNodes forest.old forest.new) }
     ensures few { live_nodes forest.new < 2 ^ 32 }
     ensures rest { rest_of forest.new ≡ rest_of forest.old }

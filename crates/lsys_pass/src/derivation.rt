@@ -1,7 +1,10 @@
 //! A derivation whose levels stand in a forest.
 ghost use Rattle.std.specs.Prelude.{◌≡◌, ◌+◌, Ok, length, sum_by, take};
 ghost use Rattle.lsys_forest.specs.Rows.{complete_levels};
-ghost use Rattle.lsys_pass.specs.Views.{level_in, place_among, CountsAnswered};
+ghost use Rattle.lsys_forest.specs.Groves.{IsAtRest};
+ghost use Rattle.lsys_pass.specs.declared.state.PassState.TheVariants.{Rest};
+ghost use Rattle.lsys_pass.specs.Passes.{HasOwnRuns};
+ghost use Rattle.lsys_pass.specs.Views.{level_in, place_among, view_of, CountsAnswered, KeepsLevelsAlone, AnswersItsQuestions, KeepsNoOtherAnswer};
 
 use crate::pass::Pass;
 use crate::state::PassState;
@@ -47,6 +50,23 @@ pub struct Held {
 }
 
 impl<L: Ledger> ForestDerivation<L> {
+    /// The pass in which the levels stand. It is at rest, also behind an edit that was refused, and keeps what the levels need
+    /// and nothing else: the nodes of the levels and the root, an answer to each of their questions, and the runs that these
+    /// answers hold. In which runs the nodes' own lists stand, its forest tells ([`Forest::regions`]). It costs no step.
+    ///
+    /// [`Forest::regions`]: lsys_forest::Forest::regions
+    pub fn pass(&self) -> &Pass<L>
+        ensures view { view_of result.now ≡ self.now }
+        ensures rest { (result.now.state ≡ Rest) × IsAtRest result.now.forest }
+        ensures nodes { KeepsLevelsAlone result.now }
+        ensures answers { AnswersItsQuestions result.now }
+        ensures none { KeepsNoOtherAnswer result.now }
+        ensures runs { HasOwnRuns result.now }
+    {
+        prove!(matches!(self.pass.state(), PassState::Rest));
+        &self.pass
+    }
+
     /// The forest in which the levels stand: its levels, up to the system's depth. It costs no step.
     pub fn forest(&self) -> &Forest<KeptAnswer<L>>
         ensures { take (self.now.system.depth + 1) (complete_levels result.now) ≡ self.now.levels }

@@ -3,7 +3,7 @@ ghost use Rattle.std.specs.Prelude.{◌≡◌, ◌≢◌, ◌+◌, ◌*◌, ◌�
 ghost use Rattle.lsys_spec.specs.Rows.{In};
 ghost use Rattle.lsys_match.specs.Derivations.{Rises, most_read, IsLevelRefusal};
 ghost use Rattle.lsys_pass.specs.declared.state.PassState.TheVariants.{Rest, Done};
-ghost use Rattle.lsys_pass.specs.Passes.{IsPass};
+ghost use Rattle.lsys_pass.specs.Passes.{HasOwnRuns, IsPass};
 ghost use Rattle.lsys_pass.specs.Moves.{AtLevel, SameRun, IsBack, ArrivesAt};
 ghost use Rattle.lsys_pass.specs.Spent.{AllPending, spent_visits, AsksRenewed, AsksWithin, VisitsSpent, VisitsWithin};
 ghost use Rattle.lsys_pass.specs.Edits.{IsEdited, CountsEdited, ReadsEdited};
@@ -36,6 +36,7 @@ impl<L: Ledger> Pass<L> {
         requires rest { self.old.state ≡ Rest }
         ensures rest { self.new.state ≡ Rest }
         ensures limit { self.new.limit ≡ self.old.limit }
+        ensures runs { HasOwnRuns self.new }
         ensures edited { OnOk result (IsEdited self.old self.new system) }
         ensures refusal { IfErr result (IsLevelRefusal system self.old.limit) }
         ensures counted { CountsEdited self.old.system system self.old.limit result }
@@ -94,7 +95,7 @@ impl<L: Ledger> Pass<L> {
         Ok(())
     }
 
-    /// Asks all nodes that are pending, the last one first.
+    /// Asks all nodes that are pending, the first one first.
     ///
     /// # Errors
     ///
@@ -117,21 +118,21 @@ impl<L: Ledger> Pass<L> {
         ensures from_read { visited.old ≤ visited.new }
         ensures few_read { OnErr result (VisitsWithin self.old visited.old visited.new) }
     {
-        while let Some(node) = self.last_pending() {
+        while let Some(node) = self.first_pending() {
             self.step(alloc, node, asked, visited)?;
         }
         Ok(())
     }
 
-    /// The last node that is pending. It costs a logarithm.
-    fn last_pending(&self) -> Option<NodeId>
+    /// The first node that is pending. It costs a step, or a logarithm where others were asked before it.
+    fn first_pending(&self) -> Option<NodeId>
         ensures some { IfSome result (λ node. In node self.now.pending) }
         ensures none { IfNone result (self.now.pending ≡ []) }
         ensures pass { IsPass self.now }
     {
         match self.work.pending.len() {
             0 => None,
-            count => Some(self.work.pending.nth(count - 1)),
+            _ => Some(self.work.pending.nth(0)),
         }
     }
 }

@@ -5,6 +5,7 @@ ghost use Rattle.lsys_pass.specs.declared.state.PassState.TheVariants.{Failed};
 ghost use Rattle.lsys_pass.specs.Moves.{AtLevel, SameRun, ArrivesAt, Finishes, Fails};
 ghost use Rattle.lsys_pass.specs.Fresh.{WasAsked, WasJustMade, SizesTo, Origin};
 ghost use Rattle.lsys_pass.specs.Spent.{AllPending};
+ghost use Rattle.lsys_pass.specs.Refusals.{RefusesBehind, IsLimitRefusal};
 
 use crate::keep::target;
 use crate::pass::Pass;
@@ -21,8 +22,8 @@ impl<L: Ledger> Pass<L> {
     ///
     /// # Errors
     ///
-    /// The leftmost fault of the level; else the limit, where the next level passes it; else want of memory. The pass has failed
-    /// then: only to abandon it is left.
+    /// The leftmost fault of the level, where it has one; else the limit, where the next level passes it, or want of memory. The
+    /// pass has failed then: only to abandon it is left.
     pub fn finish_level(&mut self, alloc: Global) -> Result<(), DeriveRefusal>
         requires state { AtLevel self.old.state }
         requires pending { self.old.pending ≡ [] }
@@ -30,6 +31,7 @@ impl<L: Ledger> Pass<L> {
         ensures all { OnOk result (AllPending self.new self.new.state) }
         ensures fails { OnErr result (Fails self.old self.new) }
         ensures refusal { IfErr result (IsLevelRefusal self.old.next self.old.limit) }
+        ensures exact { RefusesBehind self.old self.old.state result }
     {
         let level = match self.state {
             PassState::Level(level) => level,
@@ -59,7 +61,7 @@ impl<L: Ledger> Pass<L> {
         ensures origin { OnOk result (Origin self.new (level + 1)) }
         ensures sizes { OnOk result (SizesTo self.new (level + 1)) }
         ensures renewed { OnOk result (self.new.renewed ≡ self.old.renewed) }
-        ensures refusal { IfErr result (IsLevelRefusal self.old.next self.old.limit) }
+        ensures refusal { IfErr result (IsLimitRefusal self.old.next self.old.limit (level + 1)) }
         ensures run { SameRun self.old self.new }
         ensures state { self.new.state ≡ Failed }
     {

@@ -4,13 +4,14 @@ ghost use Rattle.lsys_kept.specs.Seats.{HasSeat, is_marked};
 ghost use Rattle.lsys_spec.specs.Rows.{In};
 ghost use Rattle.lsys_spec.specs.Systems.{opening};
 ghost use Rattle.lsys_spec.specs.Questions.{questions};
-ghost use Rattle.lsys_match.specs.Derivations.{Rises, most_read, IsLevelRefusal};
+ghost use Rattle.lsys_match.specs.Derivations.{Rises, most_read};
 ghost use Rattle.lsys_pass.specs.declared.state.PassState.TheVariants.{Rest, Level, Done, Failed};
 ghost use Rattle.lsys_pass.specs.Beginnings.{IsGrown};
 ghost use Rattle.lsys_pass.specs.Passes.{HasOwnRuns, IsPass};
 ghost use Rattle.lsys_pass.specs.Works.{IsCleared};
 ghost use Rattle.lsys_pass.specs.Moves.{AtLevel, Fails, IsBack, StepsOver, Waits, ComesToRest, CountsBoth, MovesBoth};
 ghost use Rattle.lsys_pass.specs.Spent.{AsksRenewed};
+ghost use Rattle.lsys_pass.specs.Refusals.{IsFaultOn};
 
 use crate::keep::{answer_of, drop_next, take_over, target};
 use crate::outcome::keep_outcome;
@@ -117,6 +118,7 @@ impl<L: Ledger> Pass<L> {
         ensures state { IfOk result (λ p. p.state ≡ Rest) }
         ensures system { IfOk result (λ p. p.system ≡ opening) }
         ensures limit { IfOk result (λ p. p.limit ≡ limit) }
+        ensures runs { IfOk result (λ p. HasOwnRuns p) }
     {
         let system = System::opening(alloc)?;
         let (forest, seats) = grown(alloc)?;
@@ -150,7 +152,7 @@ impl<L: Ledger> Pass<L> {
         requires state { self.now.state ≡ Level level }
         requires pending { self.now.pending ≡ [] }
         ensures { MatchOption result (self.now.faults ≡ [])
-            (IsLevelRefusal self.now.next self.now.limit) }
+            (IsFaultOn self.now.next self.now.limit level) }
     {
         first_fault(&self.forest, level, &self.work.faults)
     }

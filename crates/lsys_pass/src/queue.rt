@@ -17,28 +17,32 @@ struct Slot {
     gone: usize,
 }
 
-/// Nodes in order, from which any can be taken off at the cost of a logarithm: each slot is in the middle of a part, and those
-/// before it and those behind it are parts again.
+/// Nodes in order, from which the first is taken off at the cost of a step, and any at that of a logarithm: each slot is in the
+/// middle of a part, and those before it and those behind it are parts again.
 #[derive(Drop)]
 pub(crate) struct Queue {
     slots: Vec<Slot>,
-    left: usize,
+    /// Of those that the slots have left, the queue has those from this place on.
+    start: usize,
+    /// How many the slots have left.
+    end: usize,
+    /// Each slot has its node.
+    whole: bool,
 }
 
 impl Model for Queue {
-    ghost use Rattle.std.specs.Prelude.{◌≡◌, ℕ, List, length};
+    ghost use Rattle.std.specs.Prelude.{ℕ, List, drop};
     ghost use Rattle.std.specs.Coded.{coded_list, coded_ℕ};
 
     ghost Value = { List ℕ };
 
     ghost coded = { coded_list coded_ℕ };
 
-    ghost use Rattle.lsys_pass.specs.Queues.{AreCounted, those_left};
+    ghost use Rattle.lsys_pass.specs.Queues.{IsQueue, those_left};
 
-    ghost view = { λ q. those_left q.slots.items };
+    ghost view = { λ q. drop q.start (those_left q.slots.items) };
 
-    ghost invariant = { λ q.
-        AreCounted q.slots.items × (q.left ≡ length (those_left q.slots.items)) };
+    ghost invariant = { λ q. IsQueue q.slots.items q.start q.end q.whole };
 }
 
 impl Queue {
@@ -48,7 +52,9 @@ impl Queue {
     {
         Queue {
             slots: Vec::new(alloc),
-            left: 0,
+            start: 0,
+            end: 0,
+            whole: true,
         }
     }
 
@@ -62,7 +68,9 @@ impl Queue {
         ensures err { OnErr result (self.new ≡ self.old) }
     {
         self.slots = slots_of(*self.slots.allocator(), nodes)?;
-        self.left = nodes.len();
+        self.start = 0;
+        self.end = nodes.len();
+        self.whole = true;
         Ok(())
     }
 
@@ -71,25 +79,35 @@ impl Queue {
         ensures { self.new ≡ [] }
     {
         self.slots.clear();
-        self.left = 0;
+        self.start = 0;
+        self.end = 0;
+        self.whole = true;
     }
 
     /// How many nodes it has. It costs one step.
     pub(crate) fn len(&self) -> usize
         ensures { result ≡ length self.now }
     {
-        self.left
+        self.end - self.start
     }
 
-    /// The node at a place. It costs a logarithm.
+    /// The node at a place. It costs a step where none but first ones were taken off, and else a logarithm.
     pub(crate) fn nth(&self, place: usize) -> NodeId
         requires { place < length self.now }
         ensures { slice_get self.now place ≡ Some result }
     {
-        nth_among(&self.slots, place)
+        let slots: &[Slot] = &self.slots;
+        let at = self.start + place;
+        if !self.whole {
+            return nth_among(slots, at);
+        }
+        match slots[at].node {
+            Some(node) => node,
+            None => unreachable!(),
+        }
     }
 
-    /// At which place a node stands, where the nodes are in order on one complete level. The last one is looked at first; else
+    /// At which place a node stands, where the nodes are in order on one complete level. The first one is looked at first; else
     /// it is found by halves: as many nodes as a logarithm are looked up and compared.
     pub(crate) fn place_of<A: Kept>(&self, forest: &Forest<A>, node: NodeId) -> usize
         requires order { AreInOrderOnLevel forest.now self.now }
@@ -97,9 +115,9 @@ impl Queue {
         ensures { slice_get self.now result ≡ Some node }
     {
         let mut first = 0;
-        let mut end = self.left;
-        if end > 0 && self.nth(end - 1) == node {
-            return end - 1;
+        let mut end = self.len();
+        if end > 0 && self.nth(0) == node {
+            return 0;
         }
         while first < end {
             let middle = first + (end - first) / 2;
@@ -112,13 +130,18 @@ impl Queue {
         first
     }
 
-    /// Takes the node at a place off. It costs a logarithm, and takes no memory.
+    /// Takes the node at a place off. It costs a step for the first one, and else a logarithm. It takes no memory.
     pub(crate) fn take(&mut self, place: usize)
         requires { place < length self.old }
         ensures { self.new ≡ remove self.old place }
     {
-        take_among(&mut self.slots, place);
-        self.left -= 1;
+        if place == 0 {
+            self.start += 1;
+            return;
+        }
+        take_among(&mut self.slots, self.start + place);
+        self.end -= 1;
+        self.whole = false;
     }
 }
 

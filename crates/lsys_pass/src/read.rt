@@ -1,6 +1,7 @@
 //! What an answer read.
-ghost use Rattle.std.specs.Prelude.{◌≡◌, [], OnOk, OnErr};
+ghost use Rattle.std.specs.Prelude.{◌≡◌, ℕ, [], OnOk, OnErr};
 ghost use Rattle.lsys_reads.specs.Relations.{SettledStay};
+ghost use Rattle.lsys_reads.specs.Rows.{has};
 ghost use Rattle.lsys_pass.specs.Read.{entry_tags, entries_tags, ComesBehind, AddsPairs, SettlesReads};
 
 use crate::work::Work;
@@ -34,9 +35,18 @@ pub(crate) fn settle_reads(reads: &mut Reads, work: &mut Work)
     ensures pending { reads.new.pending ≡ [] }
     ensures moved { work.new.moved ≡ work.old.moved }
 {
-    work.dropped.sort_unstable_by_key(|tag| tag.0);
-    work.renewed.sort_unstable_by_key(|tag| tag.0);
+    sort_tags(&mut work.dropped);
+    sort_tags(&mut work.renewed);
     settle_listed(reads, &work.renewed, &work.dropped);
+}
+
+/// Makes these rise. Where they do already it costs a step for each. It takes no memory.
+fn sort_tags(tags: &mut Vec<Tag>)
+    ensures { (k : ℕ) → has tags.new.items k ≡ has tags.old.items k }
+{
+    if !tags.iter().is_sorted_by_key(|tag| tag.0) {
+        tags.sort_unstable_by_key(|tag| tag.0);
+    }
 }
 
 /// What these read that were dropped is forgotten, and what these read that were renewed is what is pending.

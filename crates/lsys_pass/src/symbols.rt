@@ -1,11 +1,11 @@
 //! How long the next level will be.
 ghost use Rattle.std.specs.Prelude.{◌≡◌, ◌-◌, ◌+◌, ◌<◌, ◌≤◌, IfOk, OnOk, IfErr};
-ghost use Rattle.lsys_match.specs.Derivations.{IsLevelRefusal};
 ghost use Rattle.lsys_pass.specs.Sizes.{total_of};
 ghost use Rattle.lsys_pass.specs.Passes.{stage_of};
 ghost use Rattle.lsys_pass.specs.Advances.{symbols_wanted};
 ghost use Rattle.lsys_pass.specs.Fresh.{WasAsked, AreNextParents, AreWalkedOrAlone};
 ghost use Rattle.lsys_pass.specs.NextParents.{IsSmallCount, count_for, needs_for};
+ghost use Rattle.lsys_pass.specs.Refusals.{IsLimitRefusal};
 
 use crate::ending::gone_nodes;
 use crate::keep::target;
@@ -87,7 +87,7 @@ impl<L: Ledger> Pass<L> {
         requires asked { WasAsked self.now (level - 1) }
         requires symbols { symbols ≡ symbols_wanted (stage_of self.now) (level - 1) }
         ensures within { OnOk result (total_of self.now.made + symbols ≤ self.now.limit) }
-        ensures refusal { IfErr result (IsLevelRefusal self.now.next self.now.limit) }
+        ensures refusal { IfErr result (IsLimitRefusal self.now.next self.now.limit level) }
     {
         if symbols > room_under(self.limit, &self.sizes.made) {
             return Err(DeriveRefusal::Limit { level });

@@ -1,5 +1,5 @@
 -- How many children the nodes of a level want.
-use Rattle.std.proofs.Common.{◌≡◌, ◌≢◌, ◌⊎◌, ◌+◌, ◌<◌, ℕ, zero, suc, Bool, true, false, cond, map, Option, Some, None, Err, List, [], ◌∷◌, ◌++◌, length, refl, sym, ap, ◌∙◌, subst, arith, inl, inr, sum_by, length-append}
+use Rattle.std.proofs.Common.{◌≡◌, ◌≢◌, ◌⊎◌, ◌+◌, ◌<◌, ℕ, zero, suc, Bool, true, false, cond, map, Option, Some, None, Ok, Err, List, [], ◌∷◌, ◌++◌, length, refl, sym, ap, ◌∙◌, subst, arith, add-one, inl, inr, sum_by, length-append}
 use Rattle.std.specs.Prelude.{ℤ, nat_eq}
 use Rattle.std.proofs.lemmas.Bool.{cases_eq}
 use Rattle.std.proofs.lemmas.List.{length-map}
@@ -12,7 +12,7 @@ use Rattle.lsys_spec.specs.Levels as L
 use Rattle.lsys_spec.specs.Levels.{lineage}
 use Rattle.lsys_spec.specs.Cuts.{cut_on, cut}
 use Rattle.lsys_spec.specs.Numbers.{code_of}
-use Rattle.lsys_spec.specs.Meaning.{OverLimit, numbered, children, next_level, last_level, meaning}
+use Rattle.lsys_spec.specs.Meaning.{OverLimit, numbered, children, next_level, last_level, meaning_to, meaning}
 use Rattle.lsys_change.specs.Kinds.{BracketKind, stays, reached}
 use Rattle.lsys_change.specs.Kinds as kinds
 use Rattle.lsys_change.specs.Children.{own_children, is_open, AreReplaced, row}
@@ -30,7 +30,7 @@ use Rattle.lsys_wanted.specs.Wishes.{child_symbol, AreWanted}
 use Rattle.lsys_repair.specs.Nexts.{Successors, node_symbol, node_kind, wanted_behind, HasWanted, AreClosed, wanted_in, wanted_count, count_wanted, HaveSuccessors}
 use Rattle.lsys_repair.proofs.Nexts.{kind_with, level_symbols, last_there, all_replaced}
 use Rattle.lsys_repair.proofs.Walks.{same_yes, same_not, none_reached}
-use Rattle.lsys_repair.proofs.Refused.{over_first, over_behind}
+use Rattle.lsys_repair.proofs.Refused.{over_first, stays as stays_refused, over_to}
 
 -- 1. one parent
 
@@ -147,14 +147,25 @@ module _ {A : Type 0} where
 pub over_first_count : (s : System) (limit : ℕ) → limit < wanted_count s.numbering s.axiom_string → meaning s limit ≡ Err (OverLimit 0)
 over_first_count s limit l = over_first s limit l
 
-pub over_count : (s : System) (limit t : ℕ) (m : Nodes Kept) (root : ℕ) (by : Successors) → HaveSuccessors s limit t m root by → AreApart (level_nodes m root t)
-    → limit < sum_by length (meant_to s limit t) + count_wanted s.numbering m by (level_nodes m root t) → t < s.depth → meaning s limit ≡ Err (OverLimit (t + 1))
-over_count s limit t m root by h apart l d =
+-- the next level, where all of a level are replaced
+pub next_is : (s : System) (limit t : ℕ) (m : Nodes Kept) (root : ℕ) (by : Successors) → HaveSuccessors s limit t m root by
+    → next_level s t (last_level (meant_to s limit t)) ≡ Ok (row s.numbering None (map (node_symbol m) (level_nodes m root t)) (map by (level_nodes m root t)))
+next_is s limit t m root by h =
     let nodes : List ℕ = level_nodes m root t in
     let x : List L.LevelSymbol = map (node_symbol m) nodes in
     let count : length (meant_to s limit t) ≡ t + 1 = level_count s limit t (meant_to s limit t) h.spelled h.is in
     let here : level_of m root t ≡ x = level_symbols m nodes in
     let last : last_level (meant_to s limit t) ≡ x = last_there (meant_to s limit t) t count ∙ sym (h.levels.each t (omega (arith, count))) ∙ here in
     let all : AreReplaced s t x 0 x (map by nodes) = subst (λ y. AreReplaced s t y 0 x (map by nodes)) here (all_replaced s t (level_of m root t) m by nodes h.replaced) in
+    ap (next_level s t) last ∙ kept_level s t x (map by nodes) h.spelled all
+
+pub over_level : (s : System) (limit t : ℕ) (m : Nodes Kept) (root : ℕ) (by : Successors) → HaveSuccessors s limit t m root by → AreApart (level_nodes m root t)
+    → limit < sum_by length (meant_to s limit t) + count_wanted s.numbering m by (level_nodes m root t) → meaning_to s limit (suc t) ≡ Err (OverLimit (suc t))
+over_level s limit t m root by h apart l =
+    let nodes : List ℕ = level_nodes m root t in
     let long = row_count s.numbering m by None nodes apart in
-    over_behind s limit t (meant_to s limit t) (row s.numbering None x (map by nodes)) h.is (ap (next_level s t) last ∙ kept_level s t x (map by nodes) h.spelled all) (omega (arith, long, l)) d
+    over_to s limit t (meant_to s limit t) (row s.numbering None (map (node_symbol m) nodes) (map by nodes)) h.is (next_is s limit t m root by h) (omega (arith, long, l))
+
+pub over_count : (s : System) (limit t : ℕ) (m : Nodes Kept) (root : ℕ) (by : Successors) → HaveSuccessors s limit t m root by → AreApart (level_nodes m root t)
+    → limit < sum_by length (meant_to s limit t) + count_wanted s.numbering m by (level_nodes m root t) → t < s.depth → meaning s limit ≡ Err (OverLimit (t + 1))
+over_count s limit t m root by h apart l d = rw add-one (stays_refused s limit (suc t) s.depth (OverLimit (suc t)) (omega (arith, d)) (over_level s limit t m root by h apart l))

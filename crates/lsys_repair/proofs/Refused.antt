@@ -1,5 +1,5 @@
 -- Where there is no next level.
-use Rattle.std.proofs.Common.{◌≡◌, ◌+◌, ◌-◌, ◌<◌, ◌≤◌, ℕ, zero, suc, map, Some, Result, Ok, Err, List, [], ◌∷◌, ◌++◌, length, refl, sym, ap, ◌∙◌, arith, add-one, sum_by}
+use Rattle.std.proofs.Common.{◌≡◌, ◌+◌, ◌-◌, ◌<◌, ◌≤◌, ℕ, zero, suc, map, Some, Result, Ok, Err, List, [], ◌∷◌, ◌++◌, length, refl, sym, ap, ◌∙◌, arith, sum_by}
 use Rattle.std.specs.Prelude.{ℤ, slice_get}
 use Rattle.std.proofs.Math.Nat.{add-suc}
 use Rattle.std.proofs.lemmas.Bool.Decides.{nat_tests}
@@ -31,7 +31,7 @@ stays_by : (s : System) (limit t d : ℕ) (e : LevelRefusal) → meaning_to s li
 stays_by s limit t zero e h = grind (arith, common_steps)
 stays_by s limit t (suc d) e h = let before = stays_by s limit t d e h in rw (add-suc) (rw before refl)
 
-stays : (s : System) (limit t n : ℕ) (e : LevelRefusal) → t ≤ n → meaning_to s limit t ≡ Err e → meaning_to s limit n ≡ Err e
+pub stays : (s : System) (limit t n : ℕ) (e : LevelRefusal) → t ≤ n → meaning_to s limit t ≡ Err e → meaning_to s limit n ≡ Err e
 stays s limit t n e h m =
     let at : t + (n - t) ≡ n = omega arith in
     ap (meaning_to s limit) (sym at) ∙ stays_by s limit t (n - t) e m
@@ -44,17 +44,15 @@ over_first s limit h =
     stays s limit 0 s.depth (OverLimit 0) (omega arith) (over limit 0 (first_level s ∷ []) (omega (arith, sum_by-cons (length {A = L.LevelSymbol}) (first_level s) [], h)))
 
 -- the step to the next level, by what that level is
-step_to : (s : System) (limit t : ℕ) (levels : List (List L.LevelSymbol)) (r : Result (List L.LevelSymbol) LevelRefusal) → meaning_to s limit t ≡ Ok levels → next_level s t (last_level levels) ≡ r
+pub step_to : (s : System) (limit t : ℕ) (levels : List (List L.LevelSymbol)) (r : Result (List L.LevelSymbol) LevelRefusal) → meaning_to s limit t ≡ Ok levels → next_level s t (last_level levels) ≡ r
     → meaning_to s limit (suc t) ≡ (r and_then λ x. within_limit limit (suc t) (levels ++ x ∷ []))
 step_to s limit t levels r m n =
     ap (λ (r : Result (List (List L.LevelSymbol)) LevelRefusal). r and_then λ levels. next_level s t (last_level levels) and_then λ x. within_limit limit (suc t) (levels ++ x ∷ [])) m
     ∙ ap (λ (r : Result (List L.LevelSymbol) LevelRefusal). r and_then λ x. within_limit limit (suc t) (levels ++ x ∷ [])) n
 
-pub over_behind : (s : System) (limit t : ℕ) (xs : List (List L.LevelSymbol)) (x : List L.LevelSymbol) → meaning_to s limit t ≡ Ok xs → next_level s t (last_level xs) ≡ Ok x → limit < sum_by length xs + length x → t < s.depth
-    → meaning s limit ≡ Err (OverLimit (t + 1))
-over_behind s limit t xs x m n h l =
-    rw add-one (stays s limit (suc t) s.depth (OverLimit (suc t)) (omega (arith, l))
-    (step_to s limit t xs (Ok x) m n ∙ over limit (suc t) (xs ++ x ∷ []) (omega (arith, sum_by_push (length {A = L.LevelSymbol}) xs x, h))))
+-- with the next level they are over the limit
+pub over_to : (s : System) (limit t : ℕ) (xs : List (List L.LevelSymbol)) (x : List L.LevelSymbol) → meaning_to s limit t ≡ Ok xs → next_level s t (last_level xs) ≡ Ok x → limit < sum_by length xs + length x → meaning_to s limit (suc t) ≡ Err (OverLimit (suc t))
+over_to s limit t xs x m n h = step_to s limit t xs (Ok x) m n ∙ over limit (suc t) (xs ++ x ∷ []) (omega (arith, sum_by_push (length {A = L.LevelSymbol}) xs x, h))
 
 -- 2. the first fault of a level
 
@@ -96,9 +94,10 @@ module _ {A : Type 0} where
       (ap (λ p. replacement s t x p (node_symbol m j)) (sym here) ∙ each 0 j refl) rest
       ∙ ap (λ b. Err (FaultAt e t (count_kind b n + module_nodes m before + 1))) kind ∙ ap (λ i. Err (FaultAt e t (i + 1))) (counted_more (node_kind m j) n (module_nodes m before))
 
-pub fault_next : (s : System) (limit t : ℕ) (m : Nodes Kept) (root : ℕ) (by : Successors) (before : List ℕ) (k : ℕ) (after : List ℕ) (e : Fault) → HasFirstFault s limit t m root by before k after e → t < s.depth
-    → meaning s limit ≡ Err (FaultAt e t (module_nodes m before + 1))
-fault_next s limit t m root by before k after e h d =
+-- the level has no next one, by its first fault
+pub fault_level : (s : System) (limit t : ℕ) (m : Nodes Kept) (root : ℕ) (by : Successors) (before : List ℕ) (k : ℕ) (after : List ℕ) (e : Fault) → HasFirstFault s limit t m root by before k after e
+    → next_level s t (last_level (meant_to s limit t)) ≡ Err (FaultAt e t (module_nodes m before + 1))
+fault_level s limit t m root by before k after e h =
     let x : List L.LevelSymbol = level_of m root t in
     let count : length (meant_to s limit t) ≡ t + 1 = level_count s limit t (meant_to s limit t) h.spelled h.is in
     let last : last_level (meant_to s limit t) ≡ x = last_there (meant_to s limit t) t count ∙ sym (h.levels.each t (omega (arith, count))) in
@@ -107,7 +106,11 @@ fault_next s limit t m root by before k after e h d =
     let all : children_from s t x 0 0 (map (node_symbol m) (before ++ k ∷ after)) ≡ Err (FaultAt e t (0 + module_nodes m before + 1)) =
     first_fault s t x m by 0 0 before k after e (λ i j g. ap (λ p. replacement s t x p (node_symbol m j)) (zero_and i) ∙ h.replaced i j g)
     (ap (λ p. replacement s t x p (node_symbol m k)) (zero_and (length before)) ∙ h.faulty) in
-    let none : next_level s t (last_level (meant_to s limit t)) ≡ Err (FaultAt e t (module_nodes m before + 1)) =
     ap (next_level s t) last
-    ∙ ap (λ (r : Result (List Raw) LevelRefusal). r and_then λ raw. Ok (cut raw)) (ap (children_from s t x 0 0) whole ∙ all ∙ ap (λ i. Err (FaultAt e t (i + 1))) (zero_and (module_nodes m before))) in
-    stays s limit (suc t) s.depth (FaultAt e t (module_nodes m before + 1)) (omega (arith, d)) (step_to s limit t (meant_to s limit t) (Err (FaultAt e t (module_nodes m before + 1))) h.is none)
+    ∙ ap (λ (r : Result (List Raw) LevelRefusal). r and_then λ raw. Ok (cut raw)) (ap (children_from s t x 0 0) whole ∙ all ∙ ap (λ i. Err (FaultAt e t (i + 1))) (zero_and (module_nodes m before)))
+
+pub fault_next : (s : System) (limit t : ℕ) (m : Nodes Kept) (root : ℕ) (by : Successors) (before : List ℕ) (k : ℕ) (after : List ℕ) (e : Fault) → HasFirstFault s limit t m root by before k after e → t < s.depth
+    → meaning s limit ≡ Err (FaultAt e t (module_nodes m before + 1))
+fault_next s limit t m root by before k after e h d =
+    stays s limit (suc t) s.depth (FaultAt e t (module_nodes m before + 1)) (omega (arith, d))
+    (step_to s limit t (meant_to s limit t) (Err (FaultAt e t (module_nodes m before + 1))) h.is (fault_level s limit t m root by before k after e h))

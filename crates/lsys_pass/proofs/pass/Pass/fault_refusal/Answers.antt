@@ -1,9 +1,9 @@
 use Rattle.std.proofs.Common.{◌≡◌, [], List, sym, ap, ◌∙◌, subst}
 use Rattle.std.specs.Prelude.{MatchOption}
-use Rattle.lsys_match.specs.Derivations.{IsLevelRefusal}
 use Rattle.lsys_pass.specs.declared.fault.Faulted.{Faulted}
 use Rattle.lsys_pass.specs.Leftmost.{AreOnLevel, IsLeftmostFault}
 use Rattle.lsys_pass.specs.Passes.{PassView}
+use Rattle.lsys_pass.specs.Refusals.{IsFaultOn}
 use Rattle.lsys_pass.proofs.Refusing.{on_level, few_symbols, refuses_if}
 use Rattle.lsys_pass.proofs.pass.Pass.fault_refusal.Goals as goal
 
@@ -17,6 +17,6 @@ first_fault-requires-clause-few g c = few_symbols _ c.args.level c.self.invarian
 
 pub returns : goal.returns
 returns g c =
-    subst (λ (v : PassView). MatchOption c.first_fault.result (v.faults ≡ []) (IsLevelRefusal v.next v.limit)) c.self.view_is
+    subst (λ (v : PassView). MatchOption c.first_fault.result (v.faults ≡ []) (IsFaultOn v.next v.limit c.args.level)) c.self.view_is
     (refuses_if _ c.args.level c.self.invariant (ap (λ (v : PassView). v.state) c.self.view_is ∙ c.requires.state) (ap (λ (v : PassView). v.pending) c.self.view_is ∙ c.requires.pending) c.first_fault.result
     (subst (λ (fs : List Faulted). MatchOption c.first_fault.result (fs ≡ []) (IsLeftmostFault c.self.inside.forest c.args.level fs)) c.deref.ensures.value c.first_fault.ensures))

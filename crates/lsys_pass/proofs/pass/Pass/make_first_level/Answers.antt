@@ -1,5 +1,6 @@
-use Rattle.std.proofs.Common.{sym, ap, ◌∙◌, subst}
+use Rattle.std.proofs.Common.{◌≤◌, length, sym, ap, ◌∙◌, subst}
 use Rattle.lsys_spec.specs.Systems.{System}
+use Rattle.lsys_spec.specs.Meaning.{first_level}
 use Rattle.lsys_forest.specs.Groves.{now_of}
 use Rattle.lsys_repair.specs.Renewals.{AreSmall, AreAllUnder}
 use Rattle.lsys_pass.specs.Passes.{PassView, now_in}
@@ -41,3 +42,8 @@ returns-clause-goes g c =
     (record { same = c.come_first.ensures.seats; marks = c.come_first.ensures.marks; keeps = c.come_first.ensures.keeps }) c.in_ok-told.told
     (subst (λ (y : System). MakesFirst y c.self.inside.limit (now_of c.self.inside.forest) (now_of c.make_first_nodes.new.forest) c.self.inside.forest.root c.in_ok-told.told) c.target.ensures c.in_ok-told.ensures.made)
     c.args.self.now c.self.view_is
+
+pub returns-clause-within : goal.returns-clause-within
+returns-clause-within g c =
+    subst (λ (v : PassView). length (first_level v.next) ≤ v.limit) c.self.view_is
+    (subst (λ (y : System). length (first_level y) ≤ c.self.inside.limit) c.target.ensures c.in_ok-told.ensures.made.within)

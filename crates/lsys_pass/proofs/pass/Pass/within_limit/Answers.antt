@@ -1,5 +1,5 @@
-use Rattle.std.proofs.Common.{◌-◌, ◌+◌, ◌<◌, Err, sym, subst, ap, ◌∙◌, arith}
-use Rattle.lsys_spec.specs.Meaning.{OverLimit}
+use Rattle.std.proofs.Common.{◌≡◌, ◌-◌, ◌+◌, ◌<◌, Err, sym, subst, ap, ◌∙◌, arith}
+use Rattle.lsys_spec.specs.Meaning.{OverLimit, meaning_to}
 use Rattle.lsys_pass.specs.Sizes.{total_of}
 use Rattle.lsys_pass.specs.Passes.{PassView}
 use Rattle.lsys_pass.specs.Fresh.{WasAsked}
@@ -21,5 +21,5 @@ returns-then-symbols-room_under g c =
     let over = subst (λ (v : PassView). v.limit < total_of v.made + c.args.symbols) c.self.view_is (omega (arith, same, room, more)) in
     record {
       within = tt;
-      refusal = over_asked c.args.self.now (c.args.level - 1) c.requires.asked c.args.symbols c.requires.symbols over ∙ ap (λ t. Err (OverLimit t)) (omega (arith, behind));
+      refusal = (let same : c.args.level - 1 + 1 ≡ c.args.level = omega (arith, behind) in subst (λ t. meaning_to c.args.self.now.next c.args.self.now.limit t ≡ Err (OverLimit t)) same (over_asked c.args.self.now (c.args.level - 1) c.requires.asked c.args.symbols c.requires.symbols over));
     }
