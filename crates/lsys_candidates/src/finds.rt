@@ -60,7 +60,7 @@ fn gather_turned<A: Kept>(
     ensures gathers { GathersTurned forest.now (node ∷ []) seats.old seats.new turned.old turned.new }
     ensures all { OnOk result (AllMarked (IsTurned forest.now seats.old (node ∷ [])) seats.new) }
 {
-    if seats.is_seated(forest, node) {
+    if seats.is_marked(node) || seats.is_seated(forest, node) {
         return Ok(());
     }
     gather(seats, node, turned)

@@ -76,6 +76,14 @@ impl Seats {
         tell_same(kept, seat_in(forest, node, false))
     }
 
+    /// Whether a node is marked.
+    pub fn is_marked(&self, node: NodeId) -> bool
+        requires { HasSeat self.now node }
+        ensures { result ≡ is_marked self.now node }
+    {
+        self.seats[node.0 as usize].marked
+    }
+
     /// Marks a node, and answers whether it had no mark. Nothing else changes. It takes no memory.
     pub fn mark(&mut self, node: NodeId) -> bool
         requires room { HasSeat self.old node }
