@@ -8,7 +8,7 @@ use Rattle.lsys_spec.specs.Systems.{System, Each}
 use Rattle.lsys_spec.specs.Values.{◌and_then◌}
 use Rattle.lsys_spec.specs.Lattices.{Lattice, Vector, IsWithin}
 use Rattle.lsys_spec.specs.Images.{ImageRefusal}
-use Rattle.lsys_spec.specs.Pictures.{Act, draws, moves, turns, widens, rests, act, Pose, Turtle, Stepped, Segment, PictureRefusal, is_far, modules_to, or_far, or_no_image, picture, segments_of, turtle_step}
+use Rattle.lsys_spec.specs.Pictures.{Act, draws, moves, turns, widens, rests, act, Pose, Turtle, Stepped, Segment, PictureRefusal, NoImage, is_far, modules_to, or_far, or_no_image, picture, segments_of, turtle_step}
 use Rattle.lsys_lattice.specs.Effects.{Stand, Walker, walker, done, stepped, walked, first_walker}
 use Rattle.lsys_lattice.specs.Free.{pose_of, turtle_of, leads_far, goes_far, first_far}
 use Rattle.lsys_lattice.specs.Bounds.{bounds_of, gone_on}
@@ -162,6 +162,10 @@ is_refused naming l s levels r h =
     ap (told_as l) (sym (law_whole s (last_symbols naming s levels)))
     ∙ refused_as l (image_ended (coming s (last_symbols naming s levels)).symbols (coming s (last_symbols naming s levels)).refusal) r
     (ap (drawn_as l) (law_whole s (last_symbols naming s levels)) ∙ picture_refused naming l s levels r h)
+
+pub is_unseen : (naming : ℕ → List ℕ) (l : Lattice) (s : System) (levels : List (List Spotted)) (r : ImageRefusal) → (last_image s levels).refusal ≡ Some r
+    → told (on_lattice l s) (last_symbols naming s levels) ≡ Err (NoImage r)
+is_unseen naming l s levels r h = told_named naming l s levels ∙ ap (λ o. told_as l (image_ended (last_image s levels).symbols o)) h
 
 -- 4. an image has few symbols
 pub few_symbols : (s : System) (levels : List (List Spotted)) → length (last_image s levels).symbols < 2 ^ 32

@@ -66,7 +66,11 @@ impl<T: Lattice> Motions<T> {
         requires { HasLast system.now (complete_levels forest.now) }
         ensures { TellsLast T.shape system.now (complete_levels forest.now) result }
     {
-        let mut turtle: Turtle<T> = match Turtle::new(alloc, image_nesting(forest, system)) {
+        let nesting = match image_nesting(forest, system) {
+            Ok(nesting) => nesting,
+            Err(refusal) => return Err(MotionRefusal::Image(refusal)),
+        };
+        let mut turtle: Turtle<T> = match Turtle::new(alloc, nesting) {
             Ok(turtle) => turtle,
             Err(AllocError) => return Err(MotionRefusal::Memory),
         };

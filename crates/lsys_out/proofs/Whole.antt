@@ -1,17 +1,18 @@
 -- What comes of a picture is the picture.
-use Rattle.std.proofs.Common.{◌≡◌, ℕ, ℤ, Option, Some, None, Result, Ok, Err, List, [], ◌∷◌, refl, ap, sym, ◌∙◌}
+use Rattle.std.proofs.Common.{◌≡◌, ℕ, ℤ, Option, Some, None, Result, Ok, Err, List, [], ◌∷◌, refl, ap, sym, subst, ◌∙◌}
+use Rattle.std.specs.Prelude.{IsOk}
 use Rattle.lsys_syntax.specs.Strings as S
 use Rattle.lsys_spec.specs.Systems.{System}
 use Rattle.lsys_spec.specs.Values.{◌and_then◌}
 use Rattle.lsys_spec.specs.Lattices.{Lattice}
 use Rattle.lsys_spec.specs.Levels as L
-use Rattle.lsys_spec.specs.Images.{ImageRefusal}
+use Rattle.lsys_spec.specs.Images.{ImageRefusal, image}
 use Rattle.lsys_spec.specs.Pictures.{Turtle, Stepped, Segment, PictureRefusal, NoImage, and_on, at_start, modules_to, or_far, or_no_image, picture, segments_from, segments_of, turtle_step, with_segment}
 use Rattle.lsys_level.specs.Spots.{Spotted, spots_at}
 use Rattle.lsys_hom.specs.Coming.{coming, image_ended}
 use Rattle.lsys_hom.proofs.Named.{coming_named}
 use Rattle.lsys_hom.proofs.Runs.{law_whole}
-use Rattle.lsys_out.specs.Drawings.{Drawing, drawing_from, drawn_on, last_drawing, last_symbols, with_drawn}
+use Rattle.lsys_out.specs.Drawings.{Drawing, drawing_from, drawn_on, last_drawing, last_image, last_symbols, with_drawn}
 use Rattle.lsys_out.specs.Shown.{on_lattice}
 
 -- segments up to an end or a refusal, as a picture
@@ -83,3 +84,21 @@ picture_drawn naming l s levels h = sym (of_last naming l s levels) ∙ ap (ende
 pub picture_refused : (naming : ℕ → List ℕ) (l : Lattice) (s : System) (levels : List (List Spotted)) (r : PictureRefusal) → (last_drawing l s levels).refusal ≡ Some r
     → picture (on_lattice l s) (last_symbols naming s levels) ≡ Err r
 picture_refused naming l s levels r h = sym (of_last naming l s levels) ∙ ap (ended (last_drawing l s levels).segments) h
+
+-- 4. the image of the last level
+
+image_named : (naming : ℕ → List ℕ) (s : System) (levels : List (List Spotted)) → image_ended (last_image s levels).symbols (last_image s levels).refusal ≡ image s (last_symbols naming s levels)
+image_named naming s levels =
+    ap (λ c. image_ended c.symbols c.refusal) (coming_named s.homomorphisms 0 0 (λ tag. []) naming (spots_at levels s.depth))
+    ∙ law_whole s (last_symbols naming s levels)
+
+pub has_image : (naming : ℕ → List ℕ) (s : System) (levels : List (List Spotted)) → (last_image s levels).refusal ≡ None → IsOk (image s (last_symbols naming s levels))
+has_image naming s levels h =
+    let is : Ok (last_image s levels).symbols ≡ image s (last_symbols naming s levels) = sym (ap (image_ended (last_image s levels).symbols) h) ∙ image_named naming s levels in
+    subst (λ (i : Result (List (S.Symbol ℤ)) ImageRefusal). IsOk i) is refl
+
+pub no_image : (naming : ℕ → List ℕ) (s : System) (levels : List (List Spotted)) (r : ImageRefusal) → (last_image s levels).refusal ≡ Some r
+    → picture s (last_symbols naming s levels) ≡ Err (NoImage r)
+no_image naming s levels r h =
+    let is : image s (last_symbols naming s levels) ≡ Err r = sym (image_named naming s levels) ∙ ap (image_ended (last_image s levels).symbols) h in
+    ap (λ i. or_no_image i and_then λ ys. or_far (segments_of s.lattice ys)) is

@@ -1,4 +1,5 @@
 use Rattle.std.proofs.Common.{◌≡◌, [], ◌∷◌, ◌∙◌, ◌+◌, Ok, Some, ap, length, max, subst, sym, arith}
+use Rattle.std.proofs.lemmas.Result.{err_from_is_err_and}
 use Rattle.std.proofs.Math.Nat.{zero-max}
 use Rattle.lsys_syntax.specs.Strings as S
 use Rattle.lsys_module.specs.Views.{symbol_of}
@@ -19,6 +20,7 @@ loop-symbol-init g c =
     record {
       most = zero-max (nesting_from 0 i.symbols) ∙ ap (λ (c : Coming). nesting_from 0 c.symbols) is;
       below = omega arith;
+      refusal = ap (λ (c : Coming). c.refusal) is;
       few = few_begin s levels i is;
     }
 
@@ -26,12 +28,18 @@ pub loop-symbol-preserved-in-Push : goal.loop-symbol-preserved-in-Push
 loop-symbol-preserved-in-Push g c =
     let l = c.loop-symbol in
     let new = c.next.new.self in
-    let next : IsNext l.image new (Ok (Some c.in-Ok-Some.symbol)) = subst (λ o. IsNext l.image new (Ok o)) c.in-Ok-Some.field-0-is c.in-Ok-Some.ensures in
+    let next : IsNext l.image new (Ok (Some c.in-Some.symbol)) = subst (λ o. IsNext l.image new (Ok o)) c.in-Some.is c.in_ok-symbol.ensures in
     let is : l.image.symbols ≡ S.Push ∷ new.symbols = ap (λ (i : Coming). i.symbols) next ∙ ap (λ x. symbol_of x ∷ new.symbols) c.in-Push.is in
     let n = image_nesting c.args.system.now (g.W.LevelView.levels c.args.view.now) in
     let most : c.max-most.result ≡ max l.most (l.open + 1) = c.max-most.ensures in
     record {
       most = subst (λ m. max m (nesting_from (l.open + 1) new.symbols) ≡ n) (sym most) (nested_push l.most l.open n l.image.symbols new.symbols is l.invariant.most l.invariant.below);
       below = omega (arith, most);
+      refusal = sym (ap (λ (i : Coming). i.refusal) next) ∙ l.invariant.refusal;
       few = omega (arith, l.invariant.few, ap length is);
     }
+
+pub returns-in_err-symbol : goal.returns-in_err-symbol
+returns-in_err-symbol g c =
+    let p = err_from_is_err_and c.from_residual.result c.from_residual.ensures.1 in
+    rw (p.1, p.2) (sym c.loop-symbol.invariant.refusal ∙ ap (λ (i : Coming). i.refusal) c.in_err-symbol.ensures.0)
