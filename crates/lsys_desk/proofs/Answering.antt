@@ -1,5 +1,5 @@
 -- From what was said of a line to the desk's reply.
-use Rattle.std.proofs.Common.{◌≡◌, ◌<◌, ◌⊎◌, inl, inr, ℕ, Bool, true, false, not, ◌&&◌, Option, Some, None, Result, Ok, Err, List, [], length, codes, refl, sym, ap, ◌∙◌, subst, arith}
+use Rattle.std.proofs.Common.{◌≡◌, ◌<◌, ◌⊎◌, inl, inr, ℕ, Bool, true, false, not, ◌&&◌, Option, Some, None, Result, Ok, Err, List, [], length, map, codes, refl, sym, ap, ◌∙◌, subst, arith}
 use Rattle.std.specs.Prelude.{IfOk}
 use Rattle.std.proofs.lemmas.Bool.Decides.{nat_tests}
 use Rattle.lsys_syntax.specs.Limits.{most_line_bytes}
@@ -12,10 +12,14 @@ use Rattle.lsys_spec.specs.Levels as L
 use Rattle.lsys_spec.specs.Refusals.{Reply, refused, refused_memory, is_long, is_passed_over}
 use Rattle.lsys_spec.specs.Replies.{bare_reply, bare_spelled, edited, levels_of}
 use Rattle.lsys_spec.specs.Output.{memory_or}
+use Rattle.lsys_text.specs.Tokens.{token_of}
+use Rattle.lsys_text.specs.declared.token_kind.Token.{Token}
 use Rattle.lsys_desks.specs.Timelines as timelines
-use Rattle.lsys_desks.specs.Desks.{Desk, DeskLine, answered, bare_asks, desk, desk_memory_or, spells_edit, led, own_reply, read_asks, reply_by, session_reply}
+use Rattle.lsys_desks.specs.Desks.{Desk, DeskLine, answered, bare_asks, desk, desk_memory_or, spells_edit, led, own_reply, read_asks, reply_by, session_reply, tokens_ask}
 use Rattle.lsys_rules.specs.declared.refusal.Refusal.{Refusal}
 use Rattle.lsys_rules.specs.declared.refusal.Refusal.TheVariants as refusals
+use Rattle.lsys_session.specs.ReadLines.{AreTokensOf, IsUnread}
+use Rattle.lsys_session.proofs.Requests.{unread_line}
 use Rattle.lsys_session.specs.Requests.{IsRequest, IsAskedBy, refusal_line}
 use Rattle.lsys_session.specs.Sessions.{WasSaid, refusal_outcome}
 use Rattle.lsys_session.specs.Given as given
@@ -44,6 +48,19 @@ none_passed false o asked e = refl
 
 pub asks_something : (line : List ℕ) (asked : DeskLine) → bare_asks line ≡ Some asked → is_passed_over line ≡ false
 asks_something line asked e = none_passed (is_passed_over line) (read_asks (tokens line)) asked e
+
+none_over : (b : Bool) (o : Option DeskLine) → b ≡ true → ◌≡◌ {A = Option DeskLine} (elim b [ true ↦ None | false ↦ o ]) None
+none_over true o e = refl
+none_over false o e = cc
+
+pub passed_asks : (line : List ℕ) → is_passed_over line ≡ true → bare_asks line ≡ None
+passed_asks line e = none_over (is_passed_over line) (read_asks (tokens line)) e
+
+pub asks_by_tokens : (line : List ℕ) (found : List Token) → AreTokensOf line found → bare_asks line ≡ tokens_ask (map token_of found)
+asks_by_tokens line found r = asks_unless (is_passed_over line) (read_asks (tokens line)) r.something ∙ ap read_asks r.tokens
+
+unread_asks : (line : List ℕ) (n : ℕ) → is_passed_over line ≡ false → tokens line ≡ Err n → bare_asks line ≡ None
+unread_asks line n p e = asks_unless (is_passed_over line) (read_asks (tokens line)) p ∙ ap read_asks e
 
 pub may : (line : List ℕ) → is_long line ≡ false → is_passed_over line ≡ false → may_lack line ≡ true
 may line e p = ap (λ b. not b && not (is_passed_over line)) e ∙ ap (λ b. not b) p
@@ -219,7 +236,7 @@ module _ {K : Type 0} (written : K → Option (List ℕ)) (faults : K → ℕ) (
 
   -- 5. lines at which nothing is asked
 
-  pub for_memory : (result : Result Outcome Failed) → is_long line ≡ false → is_passed_over line ≡ false → WasSaid written faults a b held (refusal_line refusals.Memory) outcomes.Memory result
+  for_memory : (result : Result Outcome Failed) → is_long line ≡ false → is_passed_over line ≡ false → WasSaid written faults a b held (refusal_line refusals.Memory) outcomes.Memory result
       → WasReplied written faults a b held limit d d line result
   for_memory result short told says = record {
     lacks = true;
@@ -227,6 +244,22 @@ module _ {K : Type 0} (written : K → Option (List ℕ)) (faults : K → ℕ) (
     is = ap (λ lacks. desk_memory_or lacks d (line_answer limit d line)) (sym (may line short told));
     gives = stays written faults a b held d result (answered (refused_memory d.system) d) outcomes.Memory says refl (record { refusal = refl; memory = refl; end = refl });
   }
+
+  pub by_unread : (e : Refusal) (result : Result Outcome Failed) → is_long line ≡ false → IsUnread line e → WasSaid written faults a b held (refusal_line e) (refusal_outcome e) result
+      → WasReplied written faults a b held limit d d line result
+  by_unread (refusals.Byte n) result short q says = by_refusal (refusals.Byte n) result short (unread_asks line n q.0 q.1) (unread_line d.system line (refusals.Byte n) q) says
+  by_unread refusals.Memory result short q says = for_memory result short q.0 says
+  by_unread refusals.LongLine result short q says = absurd q
+  by_unread (refusals.Token n) result short q says = absurd q
+  by_unread (refusals.Deep n) result short q says = absurd q
+  by_unread (refusals.Version n) result short q says = absurd q
+  by_unread (refusals.Name n) result short q says = absurd q
+  by_unread (refusals.Duplicate n) result short q says = absurd q
+  by_unread (refusals.Mixed n) result short q says = absurd q
+  by_unread (refusals.Label n) result short q says = absurd q
+  by_unread (refusals.Table n) result short q says = absurd q
+  by_unread (refusals.Level n) result short q says = absurd q
+  by_unread (refusals.TooMany n) result short q says = absurd q
 
   long_answer : (x : Bool) → x ≡ true → answered (refused d.system (codes "syntax long")) d
       ≡ reply_by limit d (elim x [ true ↦ None | false ↦ bare_asks line ]) (elim x [ true ↦ refused d.system (codes "syntax long") | false ↦ bare_reply limit d.system line ])

@@ -1,6 +1,6 @@
 -- What is said of each system that is kept.
-use Rattle.std.proofs.Common.{◌≡◌, ◌-◌, Bool, true, false, Result, List, [], ◌∷◌, ◌++◌, ◌≢◌, ◌∙◌, length, Some, None, ap, subst}
-use Rattle.std.specs.Prelude.{All}
+use Rattle.std.proofs.Common.{◌≡◌, ◌-◌, Bool, true, false, Result, Ok, Err, List, [], ◌∷◌, ◌++◌, ◌≢◌, ◌∙◌, length, Some, None, refl, ap, subst}
+use Rattle.std.specs.Prelude.{All, IfOk}
 use Rattle.std.proofs.lemmas.List.Elements.{All-push, All-nil, All-drop, All-take, All-get_or}
 use Rattle.std.proofs.lemmas.Option.{slice_get_within, get_or_from_slice_get}
 use Rattle.lsys_io.specs.declared.Failed.{Failed}
@@ -8,7 +8,9 @@ use Rattle.lsys_spec.specs.Systems.{System}
 use Rattle.lsys_desks.specs.Timelines.{Timeline, most_kept, nearest, nothing_kept}
 use Rattle.lsys_desks.specs.Desks.{EachKept}
 use Rattle.lsys_session.specs.declared.outcome.Outcome.{Outcome}
+use Rattle.lsys_session.specs.declared.outcome.Outcome.TheVariants as outcomes
 use Rattle.lsys_desk.specs.Steps.{is_taken, steps_after, steps_by}
+use Rattle.lsys_desk.specs.Views.{bench}
 use Rattle.lsys_desk.specs.declared.step.Step.{Step}
 use Rattle.lsys_desk.specs.declared.step.Step.TheVariants.{Edit, Undo, Redo}
 
@@ -35,3 +37,17 @@ module _ (P : System → Type 0) where
 -- there is a nearest one only where there are some
 pub some_nearest : (xs : List System) (s : System) → Some s ≡ nearest xs → xs ≢ []
 some_nearest xs s e none = let no : Some s ≡ None = e ∙ ap nearest none in cc
+
+same_bench : {D : Type 0} {a b : D} {h k : Timeline System} → a ≡ b → h ≡ k → bench a h ≡ bench b k
+same_bench e f = rw (e, f) refl
+
+-- What isn't accepted leaves the derivation and the steps as they were.
+pub stays_unless_accepted : {D : Type 0} (before after : D) {then : Timeline System} (led : Result Outcome Failed) (step : Step) (h : Timeline System) (s : System) → IfOk led (λ o. o ≢ outcomes.Accepted → after ≡ before)
+    → then ≡ steps_after led step h s → IfOk led (λ o. o ≢ outcomes.Accepted → bench after then ≡ bench before h)
+stays_unless_accepted before after (Ok outcomes.Accepted) step h s d e = λ n. absurd (n refl)
+stays_unless_accepted before after (Ok outcomes.Skipped) step h s d e = λ n. same_bench (d n) e
+stays_unless_accepted before after (Ok outcomes.Printed) step h s d e = λ n. same_bench (d n) e
+stays_unless_accepted before after (Ok outcomes.Refused) step h s d e = λ n. same_bench (d n) e
+stays_unless_accepted before after (Ok outcomes.Memory) step h s d e = λ n. same_bench (d n) e
+stays_unless_accepted before after (Ok outcomes.Quit) step h s d e = λ n. same_bench (d n) e
+stays_unless_accepted before after (Err failed) step h s d e = tt

@@ -1,11 +1,11 @@
 -- What is said where a desk goes from one system to another.
-use Rattle.std.proofs.Common.{◌≡◌, ℕ, Bool, true, false, Option, Some, None, Result, Ok, Err, List, [], refl, sym, ap, ◌∙◌, subst}
-use Rattle.std.specs.Prelude.{IfOk, codes}
+use Rattle.std.proofs.Common.{◌≡◌, ℕ, Bool, true, false, Option, Some, None, Result, Ok, Err, List, [], ◌++◌, refl, sym, ap, ◌∙◌, subst}
+use Rattle.std.specs.Prelude.{◌≢◌, All, IfOk, codes}
 use Rattle.lsys_io.specs.Writes.{WasPut}
 use Rattle.lsys_io.specs.declared.Failed.{Failed}
 use Rattle.lsys_spec.specs.Systems.{System}
 use Rattle.lsys_spec.specs.Levels as L
-use Rattle.lsys_spec.specs.Refusals.{Reply, refused, refused_memory}
+use Rattle.lsys_spec.specs.Refusals.{Reply, line_feed, refused, refused_memory}
 use Rattle.lsys_spec.specs.Pictures.{Turtle}
 use Rattle.lsys_spec.specs.Replies.{edited, levels_of, shown}
 use Rattle.lsys_spec.specs.Output.{memory_or}
@@ -13,7 +13,7 @@ use Rattle.lsys_desks.specs.Timelines as timelines
 use Rattle.lsys_matrix.specs.Growth.{Census, GrowthFault, growth_at}
 use Rattle.lsys_lattice.specs.Bounds.{bounds_text, turtle_behind}
 use Rattle.lsys_lattice.specs.Bounds as pictures
-use Rattle.lsys_desks.specs.Desks.{Desk, DeskReply, answered, asked_of, at, bounds, bounds_reply, desk, desk_memory_or, growth, growth_reply, led, own_reply, place_reply, redo, stepped_to, turtle_reply, undo}
+use Rattle.lsys_desks.specs.Desks.{Desk, DeskReply, EachKept, answered, asked_of, at, bounds, bounds_reply, desk, desk_memory_or, growth, growth_reply, led, own_reply, place_reply, redo, stepped_to, turtle_reply, undo}
 use Rattle.lsys_rules.specs.declared.refusal.Refusal.TheVariants as refusals
 use Rattle.lsys_session.specs.Requests.{refusal_line}
 use Rattle.lsys_session.specs.Sessions.{WasSaid}
@@ -22,8 +22,10 @@ use Rattle.lsys_session.specs.Given.{WasLed, WasPrinted, outcome_by_reply}
 use Rattle.lsys_session.specs.declared.outcome.Outcome.{Outcome}
 use Rattle.lsys_session.specs.declared.outcome.Outcome.TheVariants as outcomes
 use Rattle.lsys_desk.specs.Answers.{Became, WasServed, WasServedOrLacked, step_answer}
-use Rattle.lsys_desk.specs.Steps.{steps_after, steps_by}
+use Rattle.lsys_desk.specs.Steps.{LeadsSomewhere, asked_along, asked_word, kept_along, step_along, steps_after, steps_by}
 use Rattle.lsys_desk.specs.declared.step.Step.{Step}
+use Rattle.lsys_desk.specs.declared.step.Way.{Way}
+use Rattle.lsys_desk.specs.declared.step.Way.TheVariants.{Back, On}
 
 if_ok : {P : Type 0} (result : Result Outcome Failed) → P → IfOk result (λ o. P)
 if_ok (Ok o) p = p
@@ -54,25 +56,40 @@ module _ {K : Type 0} (written : K → Option (List ℕ)) (faults : K → ℕ) (
 
   -- 1. an undo or a redo that leads nowhere
 
-  pub no_undo : (limit : ℕ) → None ≡ timelines.nearest d.steps.past → WasSaid written faults a b held (codes "refused undo\n") outcomes.Refused result → WasServedOrLacked written faults a b held d (own_reply limit d undo) d result
+  no_undo : (limit : ℕ) → None ≡ timelines.nearest d.steps.past → WasSaid written faults a b held (codes "refused undo\n") outcomes.Refused result → WasServedOrLacked written faults a b held d (own_reply limit d undo) d result
   no_undo limit e says =
       subst (λ o. WasServedOrLacked written faults a b held d (stepped_to limit d (codes "undo") (timelines.after_undo d.steps d.system) o) d result) e
       (record { lacks = false; gives = stays (answered (refused d.system (codes "undo")) d) outcomes.Refused says refl (record { refusal = refl; memory = refl; end = refl }) })
 
-  pub no_redo : (limit : ℕ) → None ≡ timelines.nearest d.steps.future → WasSaid written faults a b held (codes "refused redo\n") outcomes.Refused result → WasServedOrLacked written faults a b held d (own_reply limit d redo) d result
+  no_redo : (limit : ℕ) → None ≡ timelines.nearest d.steps.future → WasSaid written faults a b held (codes "refused redo\n") outcomes.Refused result → WasServedOrLacked written faults a b held d (own_reply limit d redo) d result
   no_redo limit e says =
       subst (λ o. WasServedOrLacked written faults a b held d (stepped_to limit d (codes "redo") (timelines.redone d.steps d.system) o) d result) e
       (record { lacks = false; gives = stays (answered (refused d.system (codes "redo")) d) outcomes.Refused says refl (record { refusal = refl; memory = refl; end = refl }) })
 
   -- 2. an undo or a redo that leads to the nearest system
 
-  pub undo_leads : (limit : ℕ) (s : System) (new : Desk) → Some s ≡ timelines.nearest d.steps.past → WasServedOrLacked written faults a b held d (step_answer limit d s (timelines.after_undo d.steps d.system)) new result
+  undo_leads : (limit : ℕ) (s : System) (new : Desk) → Some s ≡ timelines.nearest d.steps.past → WasServedOrLacked written faults a b held d (step_answer limit d s (timelines.after_undo d.steps d.system)) new result
       → WasServedOrLacked written faults a b held d (own_reply limit d undo) new result
   undo_leads limit s new e g = subst (λ o. WasServedOrLacked written faults a b held d (stepped_to limit d (codes "undo") (timelines.after_undo d.steps d.system) o) new result) e g
 
-  pub redo_leads : (limit : ℕ) (s : System) (new : Desk) → Some s ≡ timelines.nearest d.steps.future → WasServedOrLacked written faults a b held d (step_answer limit d s (timelines.redone d.steps d.system)) new result
+  redo_leads : (limit : ℕ) (s : System) (new : Desk) → Some s ≡ timelines.nearest d.steps.future → WasServedOrLacked written faults a b held d (step_answer limit d s (timelines.redone d.steps d.system)) new result
       → WasServedOrLacked written faults a b held d (own_reply limit d redo) new result
   redo_leads limit s new e g = subst (λ o. WasServedOrLacked written faults a b held d (stepped_to limit d (codes "redo") (timelines.redone d.steps d.system) o) new result) e g
+
+  pub no_step : (way : Way) (limit : ℕ) → None ≡ timelines.nearest (kept_along way d.steps) → WasSaid written faults a b held (codes "refused " ++ asked_word way ++ line_feed) outcomes.Refused result
+      → WasServedOrLacked written faults a b held d (own_reply limit d (asked_along way)) d result
+  no_step Back limit e says = no_undo limit e says
+  no_step On limit e says = no_redo limit e says
+
+  pub step_leads : (way : Way) (limit : ℕ) (s : System) (new : Desk) → Some s ≡ timelines.nearest (kept_along way d.steps)
+      → WasServedOrLacked written faults a b held d (step_answer limit d s (steps_by (step_along way) d.steps d.system)) new result → WasServedOrLacked written faults a b held d (own_reply limit d (asked_along way)) new result
+  step_leads Back limit s new e g = undo_leads limit s new e g
+  step_leads On limit s new e g = redo_leads limit s new e g
+
+  pub step_leads_by : (way : Way) (step : Step) → step ≡ step_along way → (limit : ℕ) (s : System) (new : Desk) → Some s ≡ timelines.nearest (kept_along way d.steps)
+      → WasServedOrLacked written faults a b held d (step_answer limit d s (steps_by step d.steps d.system)) new result → WasServedOrLacked written faults a b held d (own_reply limit d (asked_along way)) new result
+  step_leads_by way step is limit s new e g =
+      step_leads way limit s new e (subst (λ (x : Step). WasServedOrLacked written faults a b held d (step_answer limit d s (steps_by x d.steps d.system)) new result) is g)
 
   -- 3. growth
 
@@ -182,3 +199,13 @@ module _ {K : Type 0} (written : K → Option (List ℕ)) (faults : K → ℕ) (
       → WasServedOrLacked written faults a b held d (step_answer limit d to steps) (desk new h) result
   step_led (Ok o) new h l e = step_taken o new h l e
   step_led (Err failed) new h l e = step_failed failed new (desk new h) l
+
+-- 6. along the systems that are kept
+
+pub leads_somewhere : (way : Way) (h : timelines.Timeline System) → kept_along way h ≢ [] → LeadsSomewhere (step_along way) h
+leads_somewhere Back h some = some
+leads_somewhere On h some = some
+
+pub each_along : (P : System → Type 0) (way : Way) (h : timelines.Timeline System) → EachKept P h → All P (kept_along way h)
+each_along P Back h k = k.past
+each_along P On h k = k.future

@@ -1,12 +1,15 @@
 -- What becomes of the systems that are kept where a desk goes from one to another.
-use Rattle.std.specs.Prelude.{◌≢◌, Bool, true, false, Result, Ok, Err, []}
+use Rattle.std.specs.Prelude.{◌≢◌, ℕ, Bool, true, false, Result, Ok, Err, List, [], codes}
 use Rattle.lsys_io.specs.declared.Failed.{Failed}
 use Rattle.lsys_spec.specs.Systems.{System}
 use Rattle.lsys_desks.specs.Timelines.{Timeline, after_edit, redone, after_undo}
+use Rattle.lsys_desks.specs.Desks.{DeskLine, redo, undo}
 use Rattle.lsys_session.specs.declared.outcome.Outcome.{Outcome}
 use Rattle.lsys_desk.specs.Answers.{is_accepted}
 use Rattle.lsys_desk.specs.declared.step.Step.{Step}
 use Rattle.lsys_desk.specs.declared.step.Step.TheVariants.{Edit, Undo, Redo}
+use Rattle.lsys_desk.specs.declared.step.Way.{Way}
+use Rattle.lsys_desk.specs.declared.step.Way.TheVariants.{Back, On}
 
 -- there is a system to which an undo or a redo leads
 abbrev pub LeadsSomewhere : Step → Timeline System → Type 0
@@ -28,3 +31,21 @@ is_taken (Err failed) = false
 -- they change where the step is taken
 abbrev pub steps_after : Result Outcome Failed → Step → Timeline System → System → Timeline System
 steps_after led step h s = elim (is_taken led) [ true ↦ steps_by step h s | false ↦ h ]
+
+-- the systems that are kept on a way, the nearest one last
+abbrev pub kept_along : Way → Timeline System → List System
+kept_along Back h = h.past
+kept_along On h = h.future
+
+abbrev pub step_along : Way → Step
+step_along Back = Undo
+step_along On = Redo
+
+-- the line that asks for it, and its word
+abbrev pub asked_along : Way → DeskLine
+asked_along Back = undo
+asked_along On = redo
+
+abbrev pub asked_word : Way → List ℕ
+asked_word Back = codes "undo"
+asked_word On = codes "redo"

@@ -1,12 +1,12 @@
 //! Desks: one line after another.
-ghost use Rattle.std.specs.Prelude.{◌≡◌, ◌≤◌, [], None, Some, true, false, length, IfOk};
+ghost use Rattle.std.specs.Prelude.{◌≡◌, ◌≢◌, ◌≤◌, [], None, Some, true, false, length, IfOk};
 ghost use Rattle.lsys_syntax.specs.Limits.{most_line_bytes, greatest_module_limit};
 ghost use Rattle.lsys_laws.specs.Sessions.{HasLevels};
-ghost use Rattle.lsys_desks.specs.Costs.{own_leads};
+ghost use Rattle.lsys_desks.specs.Timelines.{nearest};
 ghost use Rattle.lsys_desks.specs.Desks.{EachKept, bare_asks, opening_desk};
-ghost use Rattle.lsys_desks.specs.Desks as desks;
 ghost use Rattle.lsys_desk.specs.Answers.{TellsLead, leads_to};
-ghost use Rattle.lsys_desk.specs.Steps.{LeadsSomewhere};
+ghost use Rattle.lsys_session.specs.declared.outcome.Outcome.TheVariants.{Accepted};
+ghost use Rattle.lsys_desk.specs.Steps.{LeadsSomewhere, asked_along, kept_along};
 ghost use Rattle.lsys_desk.specs.Views.{desk_on};
 ghost use Rattle.lsys_desk.specs.Calls.{Replies, Serves, SaysBounds, ServesAt, KeepsLevels, edit_spelled, own_lead, CountsStep, CountsLed, CountsOther, ServesStep, ServesLine};
 
@@ -15,18 +15,19 @@ use crate::growth_reply::answer_growth;
 use crate::kept_motions::{HasMotions, KeptMotions, forget_motions};
 use crate::picture_reply::{answer_bounds, answer_place};
 use crate::sayings::say;
-use crate::step::{Step, take_step};
+use crate::step::{Step, Way, take_step};
 use lsys_desks::History;
 use lsys_io::{Buffered, Failed, Sink};
 use lsys_match::Steps;
 use lsys_rules::{Refusal, System};
-use lsys_session::{MOST_LINE_BYTES, Outcome, Request, Session, refuse, request_of};
+use lsys_session::{MOST_LINE_BYTES, Outcome, ReadLine, Request, Session, refuse, request_of};
 use std::alloc::{AllocError, Global};
 use std::marker::Model;
 use std::sync::ledger::Ledger;
 
 /// A session with the systems that edits led away from and those that were undone, at most 32 in all, each of which has its
-/// levels under the session's limit. Contracts see the derivation that is kept, and these systems.
+/// levels under the session's limit. Contracts see the derivation that is kept, over a forest with its levels and their answers, and
+/// these systems.
 ///
 /// The motions of the last level's picture are made where a line first asks for them, and kept until an edit is accepted.
 #[derive(Drop)]
@@ -74,6 +75,9 @@ impl<L: Ledger, D: HasMotions<L>> Desk<L, D> {
 
     /// Answers a line without its LF and its CR: puts its reply, and keeps the reply's desk.
     ///
+    /// What isn't accepted leaves the desk as it was: the derivation, with its system, its levels and the answers that they keep, and
+    /// the systems beside it. The motions of the picture that are kept, and what the allocator and `out` have room for, stay out of this.
+    ///
     /// An accepted edit asks the questions that are new, and so does an undo or a redo, as an edit from the present system to
     /// the one that it leads to. An edit whose levels are refused or for which memory is wanting asks at most as many as the
     /// limit has symbols; nothing else asks any. A line that isn't refused is accepted exactly where it leads to a system.
@@ -93,6 +97,7 @@ impl<L: Ledger, D: HasMotions<L>> Desk<L, D> {
     ) -> Result<Outcome, Failed>
         requires { out.old ≡ [] }
         ensures answers { Replies K.Sink sink out D.limit_of D.system_of self line.now result }
+        ensures unless_accepted { IfOk result (λ o. o ≢ Accepted → self.new ≡ self.old) }
         ensures limit { D.limit_of self.new.derivation ≡ D.limit_of self.old.derivation }
         ensures kept { KeepsLevels D.limit_of self }
         ensures counts { CountsLed D.visits D.limit_of D.system_of self asked visited line.now result }
@@ -101,10 +106,13 @@ impl<L: Ledger, D: HasMotions<L>> Desk<L, D> {
         if line.len() > MOST_LINE_BYTES {
             return refuse(out, sink, Refusal::LongLine);
         }
-        match desk_line(alloc, line) {
-            Ok(None) => self.session_line(alloc, line, out, sink, asked, visited),
-            Ok(Some(line)) => self.own_line(alloc, line, out, sink, asked, visited),
-            Err(AllocError) => refuse(out, sink, Refusal::Memory),
+        let read = match ReadLine::new(alloc, line) {
+            Ok(read) => read,
+            Err(refusal) => return refuse(out, sink, refusal),
+        };
+        match desk_line(&read) {
+            None => self.session_line(alloc, &read, out, sink, asked, visited),
+            Some(line) => self.own_line(alloc, line, out, sink, asked, visited),
         }
     }
 
@@ -112,7 +120,7 @@ impl<L: Ledger, D: HasMotions<L>> Desk<L, D> {
     fn session_line<K: Sink, V: Ledger>(
         &mut self,
         alloc: Global,
-        line: &[u8],
+        line: &ReadLine<'_>,
         out: &mut Buffered,
         sink: &mut K,
         asked: &mut Steps<L>,
@@ -122,6 +130,7 @@ impl<L: Ledger, D: HasMotions<L>> Desk<L, D> {
         requires short { length line.now ≤ most_line_bytes }
         requires other { bare_asks line.now ≡ None }
         ensures answers { Replies K.Sink sink out D.limit_of D.system_of self line.now result }
+        ensures unless_accepted { IfOk result (λ o. o ≢ Accepted → self.new ≡ self.old) }
         ensures limit { D.limit_of self.new.derivation ≡ D.limit_of self.old.derivation }
         ensures kept { EachKept (HasLevels (D.limit_of self.new.derivation)) self.new.steps }
         ensures counts { CountsOther D.visits D.limit_of D.system_of self asked visited line.now result }
@@ -151,14 +160,15 @@ impl<L: Ledger, D: HasMotions<L>> Desk<L, D> {
     ) -> Result<Outcome, Failed>
         requires { out.old ≡ [] }
         ensures gives { ServesLine K.Sink sink out D.limit_of D.system_of self line result }
+        ensures unless_accepted { IfOk result (λ o. o ≢ Accepted → self.new ≡ self.old) }
         ensures limit { D.limit_of self.new.derivation ≡ D.limit_of self.old.derivation }
         ensures kept { EachKept (HasLevels (D.limit_of self.new.derivation)) self.new.steps }
         ensures counts { CountsStep D.visits D.limit_of D.system_of self asked visited false result }
         ensures leads { IfOk result (TellsLead (own_lead D.system_of self.old line)) }
     {
         match line {
-            DeskLine::Undo => self.undo(alloc, out, sink, asked, visited),
-            DeskLine::Redo => self.redo(alloc, out, sink, asked, visited),
+            DeskLine::Undo => self.go(alloc, Way::Back, out, sink, asked, visited),
+            DeskLine::Redo => self.go(alloc, Way::On, out, sink, asked, visited),
             DeskLine::Growth { level } => {
                 answer_growth(alloc, self.session.system(), level, out, sink)
             }
@@ -209,56 +219,30 @@ impl<L: Ledger, D: HasMotions<L>> Desk<L, D> {
         )
     }
 
-    // Goes back to the nearest system of the past.
-    fn undo<K: Sink, V: Ledger>(
+    // Goes back to the nearest system of the past, or on to the nearest one that was undone.
+    fn go<K: Sink, V: Ledger>(
         &mut self,
         alloc: Global,
+        way: Way,
         out: &mut Buffered,
         sink: &mut K,
         asked: &mut Steps<L>,
         visited: &mut Steps<V>,
     ) -> Result<Outcome, Failed>
         requires { out.old ≡ [] }
-        ensures gives { Serves K.Sink sink out D.limit_of D.system_of self desks.undo result }
+        ensures gives { Serves K.Sink sink out D.limit_of D.system_of self (asked_along way) result }
+        ensures unless_accepted { IfOk result (λ o. o ≢ Accepted → self.new ≡ self.old) }
         ensures limit { D.limit_of self.new.derivation ≡ D.limit_of self.old.derivation }
         ensures kept { EachKept (HasLevels (D.limit_of self.new.derivation)) self.new.steps }
         ensures counts { CountsStep D.visits D.limit_of D.system_of self asked visited false result }
-        ensures leads { IfOk result
-            (TellsLead (own_leads (desk_on D.system_of self.old) desks.undo)) }
+        ensures leads { IfOk result (TellsLead (nearest (kept_along way self.old.steps))) }
     {
-        let Some(last) = self.history.last() else {
-            return say(out, sink, b"refused undo\n", Outcome::Refused);
+        let Some(nearest) = way.nearest(&self.history) else {
+            return say(out, sink, way.refusal(), Outcome::Refused);
         };
-        let copied: Result<System, AllocError> = last.clone();
+        let copied: Result<System, AllocError> = nearest.clone();
         match copied {
-            Ok(last) => self.lead(alloc, Step::Undo, last, out, sink, asked, visited),
-            Err(_) => refuse(out, sink, Refusal::Memory),
-        }
-    }
-
-    // Goes on to the nearest system that was undone.
-    fn redo<K: Sink, V: Ledger>(
-        &mut self,
-        alloc: Global,
-        out: &mut Buffered,
-        sink: &mut K,
-        asked: &mut Steps<L>,
-        visited: &mut Steps<V>,
-    ) -> Result<Outcome, Failed>
-        requires { out.old ≡ [] }
-        ensures gives { Serves K.Sink sink out D.limit_of D.system_of self desks.redo result }
-        ensures limit { D.limit_of self.new.derivation ≡ D.limit_of self.old.derivation }
-        ensures kept { EachKept (HasLevels (D.limit_of self.new.derivation)) self.new.steps }
-        ensures counts { CountsStep D.visits D.limit_of D.system_of self asked visited false result }
-        ensures leads { IfOk result
-            (TellsLead (own_leads (desk_on D.system_of self.old) desks.redo)) }
-    {
-        let Some(next) = self.history.next() else {
-            return say(out, sink, b"refused redo\n", Outcome::Refused);
-        };
-        let copied: Result<System, AllocError> = next.clone();
-        match copied {
-            Ok(next) => self.lead(alloc, Step::Redo, next, out, sink, asked, visited),
+            Ok(nearest) => self.lead(alloc, way.step(), nearest, out, sink, asked, visited),
             Err(_) => refuse(out, sink, Refusal::Memory),
         }
     }
@@ -277,6 +261,7 @@ impl<L: Ledger, D: HasMotions<L>> Desk<L, D> {
         requires empty { out.old ≡ [] }
         requires there { LeadsSomewhere step self.old.steps }
         ensures gives { ServesStep step system K.Sink sink out D.limit_of D.system_of self result }
+        ensures unless_accepted { IfOk result (λ o. o ≢ Accepted → self.new ≡ self.old) }
         ensures limit { D.limit_of self.new.derivation ≡ D.limit_of self.old.derivation }
         ensures kept { EachKept (HasLevels (D.limit_of self.new.derivation)) self.new.steps }
         ensures counts { CountsStep D.visits D.limit_of D.system_of self asked visited true result }
@@ -308,6 +293,7 @@ impl<L: Ledger, D: HasMotions<L>> Desk<L, D> {
         requires present { present ≡ D.system_of self.old.derivation }
         requires levels { HasLevels (D.limit_of self.old.derivation) present }
         ensures gives { ServesStep step system K.Sink sink out D.limit_of D.system_of self result }
+        ensures unless_accepted { IfOk result (λ o. o ≢ Accepted → self.new ≡ self.old) }
         ensures limit { D.limit_of self.new.derivation ≡ D.limit_of self.old.derivation }
         ensures kept { EachKept (HasLevels (D.limit_of self.new.derivation)) self.new.steps }
         ensures counts { CountsStep D.visits D.limit_of D.system_of self asked visited true result }

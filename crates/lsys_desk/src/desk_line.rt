@@ -1,14 +1,11 @@
 //! Lines that ask something of a desk.
-ghost use Rattle.std.specs.Prelude.{◌≡◌, ◌<◌, ◌≤◌, ◌+◌, ℕ, All, false, map, length, bytes_eq, IfOk, OnErr, option_map};
-ghost use Rattle.lsys_syntax.specs.Limits.{most_line_bytes};
-ghost use Rattle.lsys_spec.specs.Refusals.{is_passed_over};
+ghost use Rattle.std.specs.Prelude.{◌≡◌, ◌<◌, ◌+◌, ℕ, All, map, bytes_eq, option_map};
 ghost use Rattle.lsys_text.specs.Tokens.{LiesInLine, kind_of, token_of};
 ghost use Rattle.lsys_desks.specs.Desks.{bare_asks, kind_asks, number_asks, tokens_ask, word_asks};
 ghost use Rattle.lsys_desk.specs.Views.{desk_line_of, asked_by_two};
 
-use lsys_session::is_without_command;
-use lsys_text::{TextRefusal, Token, TokenKind, Word, tokens};
-use std::alloc::{AllocError, Global};
+use lsys_session::ReadLine;
+use lsys_text::{Token, TokenKind, Word};
 
 /// What a line asks of a desk.
 #[derive(Clone, Copy, PartialEq, Eq, Debug)]
@@ -25,24 +22,12 @@ pub(crate) enum DeskLine {
     At { place: u64, column: u32 },
 }
 
-/// What a line of at most 65,536 bytes, without its LF and CR, asks of a desk. One that is passed over asks nothing.
-///
-/// # Errors
-///
-/// Want of memory, but not at a line that is passed over.
-pub(crate) fn desk_line(alloc: Global, line: &[u8]) -> Result<Option<DeskLine>, AllocError>
-    requires { length line.now ≤ most_line_bytes }
-    ensures asks { IfOk result (λ asked. bare_asks line.now ≡ option_map desk_line_of asked) }
-    ensures memory { OnErr result (is_passed_over line.now ≡ false) }
+/// What a line asks of a desk. One that is passed over asks nothing.
+pub(crate) fn desk_line(line: &ReadLine<'_>) -> Option<DeskLine>
+    ensures { bare_asks line.now ≡ option_map desk_line_of result }
 {
-    if is_without_command(line) {
-        return Ok(None);
-    }
-    match tokens(alloc, line) {
-        Ok(found) => Ok(asked_by(&found)),
-        Err(TextRefusal::Byte { column: _column }) => Ok(None),
-        Err(TextRefusal::Memory) => Err(AllocError),
-    }
+    let found = line.tokens()?;
+    asked_by(found)
 }
 
 // What a line with these tokens asks.

@@ -1,6 +1,8 @@
 //! Which way a desk goes from one system to another.
-ghost use Rattle.std.specs.Prelude.{◌≡◌};
-ghost use Rattle.lsys_desk.specs.Steps.{LeadsSomewhere, is_taken, steps_after, steps_by};
+ghost use Rattle.std.specs.Prelude.{◌≡◌, ◌++◌, codes, option_copied};
+ghost use Rattle.lsys_spec.specs.Refusals.{line_feed};
+ghost use Rattle.lsys_desks.specs.Timelines.{nearest};
+ghost use Rattle.lsys_desk.specs.Steps.{LeadsSomewhere, asked_word, is_taken, kept_along, step_along, steps_after, steps_by};
 
 use lsys_desks::History;
 use lsys_io::Failed;
@@ -16,6 +18,47 @@ pub(crate) enum Step {
     Undo,
     /// On to the nearest system that was undone.
     Redo,
+}
+
+/// Which way a desk goes along the systems that it keeps.
+#[derive(Clone, Copy)]
+pub(crate) enum Way {
+    /// To the past, by an undo.
+    Back,
+    /// To what was undone, by a redo.
+    On,
+}
+
+impl Way {
+    /// The nearest system on this way; none where nothing is kept there.
+    pub(crate) fn nearest(self, history: &History<System>) -> Option<&System>
+        ensures { option_copied result ≡ nearest (kept_along self history.now) }
+    {
+        match self {
+            Way::Back => history.last(),
+            Way::On => history.next(),
+        }
+    }
+
+    /// The step to it.
+    pub(crate) fn step(self) -> Step
+        ensures { result ≡ step_along self }
+    {
+        match self {
+            Way::Back => Step::Undo,
+            Way::On => Step::Redo,
+        }
+    }
+
+    /// What is said where there is none.
+    pub(crate) fn refusal(self) -> &'static [u8]
+        ensures { result.now ≡ codes "refused " ++ asked_word self ++ line_feed }
+    {
+        match self {
+            Way::Back => b"refused undo\n",
+            Way::On => b"refused redo\n",
+        }
+    }
 }
 
 /// Takes a step away from the present system, where the one that it leads to was accepted and its reply was put.

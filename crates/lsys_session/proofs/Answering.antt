@@ -1,6 +1,6 @@
 -- From what a request is answered to what a line is.
 use Rattle.std.proofs.Common.{◌≡◌, ◌≤◌, ℕ, Bool, true, false, not, ◌&&◌, ◌++◌, Option, Some, None, Result, Ok, Err, List, length, codes, refl, sym, ap, ◌∙◌, subst, arith}
-use Rattle.std.specs.Prelude.{IfOk}
+use Rattle.std.specs.Prelude.{IfOk, IsOk}
 use Rattle.std.proofs.lemmas.Bool.Decides.{nat_tests}
 use Rattle.lsys_syntax.specs.Limits.{most_line_bytes}
 use Rattle.lsys_syntax.specs.Commands.{Command}
@@ -11,13 +11,13 @@ use Rattle.lsys_spec.specs.Refusals.{Reply, said, refused, refused_memory, line_
 use Rattle.lsys_spec.specs.Replies.{shown, edited, levels_of, picture_of, string_line, bare_reply, bare_spelled, is_query, spelled_by}
 use Rattle.lsys_spec.specs.PictureTexts.{segments_text, svg_text}
 use Rattle.lsys_spec.specs.Output.{memory_or}
-use Rattle.lsys_syntax.specs.Tokens.{tokens}
+use Rattle.lsys_syntax.specs.Tokens.{Token, tokens}
 use Rattle.lsys_rules.specs.declared.refusal.Refusal.{Refusal}
 use Rattle.lsys_rules.specs.declared.refusal.Refusal.TheVariants as refusals
 use Rattle.lsys_session.specs.Requests.{IsRequest, IsAskedBy, reply_to, refusal_line, refusal_text}
 use Rattle.lsys_session.specs.Sessions.{WasSaid, refusal_outcome}
 use Rattle.lsys_session.specs.Answers.{line_reply, may_lack, line_reply_or_memory, line_spelled, BecameAsSpelled, WasAnswered}
-use Rattle.lsys_session.specs.Given.{is_something, given_reply, request_outcome, outcome_by_reply, WasGiven}
+use Rattle.lsys_session.specs.Given.{MayLack, is_something, given_reply, request_outcome, outcome_by_reply, WasGiven}
 use Rattle.lsys_session.specs.declared.outcome.Outcome.{Outcome}
 use Rattle.lsys_session.specs.declared.outcome.Outcome.TheVariants as outcomes
 use Rattle.lsys_session.specs.declared.request.Request.{Request}
@@ -155,7 +155,7 @@ module _ {K : Type 0} (written : K → Option (List ℕ)) (faults : K → ℕ) (
   }
 
   pub answered_refusal : (e : Refusal) → is_long line ≡ false → IsRequest s line (Err e) → WasSaid written faults a b held (refusal_line e) (refusal_outcome e) result → WasAnswered written faults a b held limit s s line result
-  answered_refusal refusals.Memory short q said = lacking_memory (may line short q) said
+  answered_refusal refusals.Memory short q said = lacking_memory (may line short q.0) said
   answered_refusal (refusals.Byte n) short q said = refused_so (refusal_text (refusals.Byte n)) (not_long limit s line short ∙ q limit) said
   answered_refusal refusals.LongLine short q said = refused_so (refusal_text refusals.LongLine) (not_long limit s line short ∙ q limit) said
   answered_refusal (refusals.Token n) short q said = refused_so (refusal_text (refusals.Token n)) (not_long limit s line short ∙ q limit) said
@@ -171,3 +171,46 @@ module _ {K : Type 0} (written : K → Option (List ℕ)) (faults : K → ℕ) (
 
 pub short_by : (line : List ℕ) → length line ≤ most_line_bytes → is_long line ≡ false
 short_by line h = grind (arith, nat_tests)
+
+-- 4. lines for which memory is wanting
+
+spelled_tokens : (b : Bool) (t : Result (List Token) ℕ) (c : Command) → either b None (spelled_by t) ≡ Some c → IsOk t
+spelled_tokens true t c e = cc
+spelled_tokens false (Ok ts) c e = refl
+spelled_tokens false (Err n) c e = cc
+
+pub asked_tokens : (limit : ℕ) (s : System) (line : List ℕ) (r : Request) → IsAskedBy s (bare_spelled line) r → MayLack limit s r → IsOk (tokens line)
+asked_tokens limit s line Nothing h m = absurd m
+asked_tokens limit s line (Edit next) h m = spelled_tokens (is_passed_over line) (tokens line) h.0 h.1
+asked_tokens limit s line (String t) h m = spelled_tokens (is_passed_over line) (tokens line) h.0 h.1
+asked_tokens limit s line Segments h m = spelled_tokens (is_passed_over line) (tokens line) h.0 h.1
+asked_tokens limit s line Svg h m = spelled_tokens (is_passed_over line) (tokens line) h.0 h.1
+asked_tokens limit s line Show h m = absurd m
+asked_tokens limit s line Quit h m = absurd m
+
+IsLacking : Outcome → Type 0
+IsLacking outcomes.Memory = Unit {0}
+IsLacking o = ⊥
+
+lacking_tokens : (s : System) (line : List ℕ) (e : Refusal) → IsRequest s line (Err e) → IsLacking (refusal_outcome e) → IsOk (tokens line)
+unfolding IsLacking
+lacking_tokens s line refusals.Memory q l = q.1
+lacking_tokens s line (refusals.Byte n) q l = absurd l
+lacking_tokens s line refusals.LongLine q l = absurd l
+lacking_tokens s line (refusals.Token n) q l = absurd l
+lacking_tokens s line (refusals.Deep n) q l = absurd l
+lacking_tokens s line (refusals.Version n) q l = absurd l
+lacking_tokens s line (refusals.Name n) q l = absurd l
+lacking_tokens s line (refusals.Duplicate n) q l = absurd l
+lacking_tokens s line (refusals.Mixed n) q l = absurd l
+lacking_tokens s line (refusals.Label n) q l = absurd l
+lacking_tokens s line (refusals.Table n) q l = absurd l
+lacking_tokens s line (refusals.Level n) q l = absurd l
+lacking_tokens s line (refusals.TooMany n) q l = absurd l
+
+pub refused_tokens : (s : System) (line : List ℕ) (e : Refusal) (result : Result Outcome Failed) → IsRequest s line (Err e) → IfOk result (λ o. o ≡ refusal_outcome e) → result ≡ Ok outcomes.Memory → IsOk (tokens line)
+unfolding IsLacking
+refused_tokens s line e (Ok o) q is h =
+    let memory : outcomes.Memory ≡ refusal_outcome e = cc in
+    lacking_tokens s line e q (subst IsLacking memory tt)
+refused_tokens s line e (Err f) q is h = cc

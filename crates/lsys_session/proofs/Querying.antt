@@ -1,6 +1,6 @@
 -- Queries: a level as a line, and pictures.
 use Rattle.std.proofs.Common.{◌≡◌, ◌≤◌, ◌<◌, ℕ, Bool, true, false, ◌++◌, Option, Some, None, Result, Ok, Err, List, [], length, map, codes, refl, sym, ap, ◌∙◌, subst, arith}
-use Rattle.std.specs.Prelude.{IfOk, IsErr, slice_index_or}
+use Rattle.std.specs.Prelude.{IfOk, IsErr, IsOk, slice_index_or}
 use Rattle.lsys_io.specs.declared.Failed.{Failed}
 use Rattle.lsys_io.specs.Writes.{WasPut}
 use Rattle.lsys_syntax.specs.Strings.{string_text}
@@ -10,6 +10,7 @@ use Rattle.lsys_spec.specs.Levels as L
 use Rattle.lsys_spec.specs.Levels.{plain}
 use Rattle.lsys_spec.specs.Meaning.{meaning}
 use Rattle.lsys_spec.specs.Meaning as M
+use Rattle.lsys_spec.specs.Images.{image}
 use Rattle.lsys_spec.specs.Pictures.{Segment, PictureRefusal, NoImage, Far, picture}
 use Rattle.lsys_spec.specs.PictureTexts.{segments_text, svg_text}
 use Rattle.lsys_spec.specs.Refusals.{Reply, said, refused, refused_memory, line_feed}
@@ -23,14 +24,15 @@ use Rattle.lsys_level.specs.Views.{IsCopy}
 use Rattle.lsys_hom.specs.Refusals.{refusal_of}
 use Rattle.lsys_hom.specs.declared.refusal.ImageRefusal.{ImageRefusal}
 use Rattle.lsys_match.specs.Derivations.{IsDerived}
-use Rattle.lsys_out.specs.Drawings.{last_symbols, IsRefusal}
+use Rattle.lsys_out.specs.Drawings.{last_image, last_symbols, IsRefusal}
+use Rattle.lsys_out.proofs.Whole.{has_image}
 use Rattle.lsys_out.specs.Nesting.{HasLast}
 use Rattle.lsys_out.specs.Shown.{on_lattice, Shows, RefusesPicture}
 use Rattle.lsys_out.specs.declared.refusal.PictureRefusal.{PictureRefusal as Refusal}
 use Rattle.lsys_out.specs.declared.refusal.PictureRefusal.TheVariants as refusals
 use Rattle.lsys_session.specs.Requests.{HasLevel, reply_to}
 use Rattle.lsys_session.specs.Sessions.{WasSaid}
-use Rattle.lsys_session.specs.Given.{IsWellUnder, IsLevelWithin, level_number, outcome_by_reply, WasGiven, WasPrinted, picture_text, picture_reply, picture_line, picture_request}
+use Rattle.lsys_session.specs.Given.{HasImage, IsWellUnder, IsLevelWithin, level_number, outcome_by_reply, WasGiven, WasPrinted, picture_text, picture_reply, picture_line, picture_request}
 use Rattle.lsys_session.specs.declared.outcome.Outcome.{Outcome}
 use Rattle.lsys_session.specs.declared.outcome.Outcome.TheVariants as outcomes
 use Rattle.lsys_session.specs.declared.pictures.Picture.{Picture}
@@ -100,6 +102,11 @@ module _ (limit : ℕ) (s : System) (levels : List (List Spotted)) (d : IsDerive
   pub last_meant : (P : List L.LevelSymbol → Type 0) → ((naming : ℕ → List ℕ) → P (last_symbols naming s levels)) → P (M.last_level d.meant)
   last_meant P h = subst P last_named (h naming)
 
+  pub image_there : (last_image s levels).refusal ≡ None → HasImage limit s
+  image_there none = λ x h.
+      let same : d.meant ≡ x = (let e : ◌≡◌ {A = Result (List (List L.LevelSymbol)) M.LevelRefusal} (Ok d.meant) (Ok x) = sym d.is ∙ h in cc) in
+      subst (λ (xs : List (List L.LevelSymbol)). IsOk (image s (M.last_level xs))) same (last_meant (λ y. IsOk (image s y)) (λ naming. has_image naming s levels none))
+
   picture_asked : (kind : Picture) → reply_to limit s (picture_request kind) ≡ picture_reply kind s (picture s (M.last_level d.meant))
   picture_asked pictures.Segments = ap (λ o. shown s segments_text (picture_of s o)) (meant_levels limit s d.meant d.is)
   picture_asked pictures.Svg = ap (λ o. shown s (svg_text s.lattice) (picture_of s o)) (meant_levels limit s d.meant d.is)
@@ -149,6 +156,10 @@ module _ {K : Type 0} (written : K → Option (List ℕ)) (faults : K → ℕ) (
   pub picture_has_no_image : {m : K} {held_mid : List ℕ} (e : ImageRefusal) → Shows written faults a m [] held_mid p (picture_text kind s.lattice) (Err (refusals.Image e))
       → WasSaid written faults m b held (picture_line (NoImage (refusal_of e))) outcomes.Refused result → WasPrinted written faults a b held s (picture_reply kind s p) result
   picture_has_no_image e q says = refused_as (NoImage (refusal_of e)) q (λ q h. h) says
+
+  pub picture_without_image : (e : ImageRefusal) → p ≡ Err (NoImage (refusal_of e)) → WasSaid written faults a b held (picture_line (NoImage (refusal_of e))) outcomes.Refused result
+      → WasPrinted written faults a b held s (picture_reply kind s p) result
+  picture_without_image e h says = prints_so false (refused s (picture_refusal_text (NoImage (refusal_of e)))) (ap (picture_reply kind s) h) says
 
   pub picture_goes_far : {m : K} {held_mid : List ℕ} (n : ℕ) → Shows written faults a m [] held_mid p (picture_text kind s.lattice) (Err (refusals.Far n))
       → WasSaid written faults m b held (picture_line (Far n)) outcomes.Refused result → WasPrinted written faults a b held s (picture_reply kind s p) result

@@ -2,7 +2,7 @@
 use Rattle.std.proofs.Common.{◌≡◌, ℕ, Bool, true, false, Option, Some, None, Result, Ok, Err, List, [], map, length, codes, refl, ap, sym, subst, ◌∙◌, arith}
 use Rattle.std.proofs.lemmas.Simd.{map-map}
 use Rattle.std.proofs.lemmas.Bool.Decides.{nat_tests}
-use Rattle.std.specs.Prelude.{nat_lt}
+use Rattle.std.specs.Prelude.{IsOk, nat_lt, unwrap_or}
 use Rattle.lsys_syntax.specs.Tokens as syntax
 use Rattle.lsys_syntax.specs.Commands.{Command, set_axiom, put_production, drop_rule, set_ignored, set_schedule, set_seed, set_depth, set_lattice, put_homomorphism, print_string, print_segments, print_svg, print_system, quit, set_version, set_own, drop_own, set_numbering}
 use Rattle.lsys_syntax.specs.LineMachine.{Verdict, verdict, sentence, stops, too_deep, command_in, parse_command}
@@ -21,9 +21,10 @@ use Rattle.lsys_rules.specs.Parsing.{IsParsedLine}
 use Rattle.lsys_rules.specs.Applying.{IsToldAt}
 use Rattle.lsys_rules.specs.declared.refusal.Refusal.{Refusal}
 use Rattle.lsys_rules.specs.declared.refusal.Refusal.TheVariants as refusals
-use Rattle.lsys_session.specs.Requests.{IsCommandIn, IsRequested, IsRequest, IsAskedBy, HasLevel, request_by}
+use Rattle.lsys_session.specs.ReadLines.{AreTokensOf, IsUnread}
+use Rattle.lsys_session.specs.Requests.{IsCommandIn, IsRequested, IsRequest, IsAskedBy, HasLevel, query_by}
 use Rattle.lsys_session.specs.declared.request.Request.{Request}
-use Rattle.lsys_session.specs.declared.request.Request.TheVariants.{Nothing, String}
+use Rattle.lsys_session.specs.declared.request.Request.TheVariants.{Nothing, Edit, String}
 
 -- 1. a line's tokens
 
@@ -44,7 +45,9 @@ parsed_line bare ts e (Err (refusals.Token n)) p = λ limit s.
     told_by limit s bare ts (stops p.0) e p.1 ∙ ap (λ k. refused s (with_number (codes "syntax token") k)) (sym p.2)
 parsed_line bare ts e (Err (refusals.Deep n)) p = λ limit s.
     told_by limit s bare ts (too_deep p.0) e p.1 ∙ ap (λ k. refused s (with_number (codes "syntax deep") k)) (sym p.2)
-parsed_line bare ts e (Err refusals.Memory) p = tt
+parsed_line bare ts e (Err refusals.Memory) p = λ us k stop.
+    let same : map token_of ts ≡ us = (let r : ◌≡◌ {A = Result (List syntax.Token) ℕ} (Ok (map token_of ts)) (Ok us) = sym e ∙ k in cc) in
+    p (ap verdict (sym (same_kinds ts)) ∙ ap (λ (vs : List syntax.Token). verdict (map (λ (t : syntax.Token). t.kind) vs)) same ∙ stop)
 parsed_line bare ts e (Err (refusals.Byte n)) p = absurd p
 parsed_line bare ts e (Err refusals.LongLine) p = absurd p
 parsed_line bare ts e (Err (refusals.Version n)) p = absurd p
@@ -120,12 +123,16 @@ level_there s c (Some n) e h =
     let passed : nat_lt s.depth n ≡ false = below (nat_lt s.depth n) edits.wrong_level 1 (subst (λ d. edits.refusal s d ≡ None) e h) in
     grind (arith, nat_tests, passed)
 
+-- what a command of this kind asks that makes this of a system
+abbrev request_by : CommandKind → spec.System → Request
+request_by kind next = unwrap_or (query_by kind) (Edit next)
+
 -- the command of a kind, and what it asks
 module _ (s : spec.System) (c : CommandLine) (next : spec.System) where
   abbrev spelled : Command
   spelled = command_of c.tokens
 
-  pub requested_so : (k : CommandKind) → kind_of_command spelled ≡ k → edits.refusal s spelled ≡ None → next ≡ edits.changed s spelled → IsRequested s c (Ok (request_by k next))
+  requested_so : (k : CommandKind) → kind_of_command spelled ≡ k → edits.refusal s spelled ≡ None → next ≡ edits.changed s spelled → IsRequested s c (Ok (request_by k next))
   requested_so kinds.Edit is unrefused e = (
     unrefused,
     λ limit. edit_asked limit s spelled is ∙ ap (λ next. edited limit s next (levels_of limit next)) (sym e),
@@ -138,6 +145,15 @@ module _ (s : spec.System) (c : CommandLine) (next : spec.System) where
   requested_so kinds.Svg is unrefused e = let one = of_kind spelled kinds.Svg is in (unrefused, λ limit. ap (accepted limit s) one, tt, (spelled, refl, ap is_query one))
   requested_so kinds.Show is unrefused e = let one = of_kind spelled kinds.Show is in (unrefused, λ limit. ap (accepted limit s) one, tt, (spelled, refl, ap is_query one))
   requested_so kinds.Quit is unrefused e = let one = of_kind spelled kinds.Quit is in (unrefused, λ limit. ap (accepted limit s) one, tt, (spelled, refl, ap is_query one))
+
+module _ (s : spec.System) (c : CommandLine) (k : CommandKind) (is : kind_of_command (command_of c.tokens) ≡ k) (unrefused : edits.refusal s (command_of c.tokens) ≡ None) where
+  pub query_requested : (q : Request) → query_by k ≡ Some q → IsRequested s c (Ok q)
+  query_requested q by =
+      let next = edits.changed s (command_of c.tokens) in
+      subst (λ (r : Request). IsRequested s c (Ok r)) (ap (λ o. unwrap_or o (Edit next)) by) (requested_so s c next k is unrefused refl)
+
+  pub edit_requested : (next : spec.System) → query_by k ≡ None → next ≡ edits.changed s (command_of c.tokens) → IsRequested s c (Ok (Edit next))
+  edit_requested next by e = subst (λ (r : Request). IsRequested s c (Ok r)) (ap (λ o. unwrap_or o (Edit next)) by) (requested_so s c next k is unrefused e)
 
 -- 3. the whole line
 
@@ -172,6 +188,38 @@ passed_over s bare e = (λ limit. taken (is_passed_over bare) (said s []) (token
 not_passed : (limit : ℕ) (s : spec.System) (bare : List ℕ) → is_passed_over bare ≡ false → bare_reply limit s bare ≡ tokens_reply limit s (length bare) (syntax.tokens bare)
 not_passed limit s bare e = left (is_passed_over bare) (said s []) (tokens_reply limit s (length bare) (syntax.tokens bare)) e
 
+-- one that spells no command
+pub unspelled_line : (s : spec.System) (bare : List ℕ) (found : List Token) (e : Refusal) → AreTokensOf bare found → IsCommandIn bare (Err e) → IsRequest s bare (Err e)
+unspelled_line s bare found refusals.Memory r q = (r.something, subst (λ (a : Result (List syntax.Token) ℕ). IsOk a) (sym r.tokens) refl)
+unspelled_line s bare found (refusals.Byte n) r q = λ limit. not_passed limit s bare r.something ∙ q limit s
+unspelled_line s bare found refusals.LongLine r q = λ limit. not_passed limit s bare r.something ∙ q limit s
+unspelled_line s bare found (refusals.Token n) r q = λ limit. not_passed limit s bare r.something ∙ q limit s
+unspelled_line s bare found (refusals.Deep n) r q = λ limit. not_passed limit s bare r.something ∙ q limit s
+unspelled_line s bare found (refusals.Version n) r q = λ limit. not_passed limit s bare r.something ∙ q limit s
+unspelled_line s bare found (refusals.Name n) r q = λ limit. not_passed limit s bare r.something ∙ q limit s
+unspelled_line s bare found (refusals.Duplicate n) r q = λ limit. not_passed limit s bare r.something ∙ q limit s
+unspelled_line s bare found (refusals.Mixed n) r q = λ limit. not_passed limit s bare r.something ∙ q limit s
+unspelled_line s bare found (refusals.Label n) r q = λ limit. not_passed limit s bare r.something ∙ q limit s
+unspelled_line s bare found (refusals.Table n) r q = λ limit. not_passed limit s bare r.something ∙ q limit s
+unspelled_line s bare found (refusals.Level n) r q = λ limit. not_passed limit s bare r.something ∙ q limit s
+unspelled_line s bare found (refusals.TooMany n) r q = λ limit. not_passed limit s bare r.something ∙ q limit s
+
+-- one that has a byte in no token, or for which memory is wanting
+pub unread_line : (s : spec.System) (bare : List ℕ) (e : Refusal) → IsUnread bare e → IsRequest s bare (Err e)
+unread_line s bare (refusals.Byte n) q = λ limit. not_passed limit s bare q.0 ∙ ap (tokens_reply limit s (length bare)) q.1
+unread_line s bare refusals.Memory q = q
+unread_line s bare refusals.LongLine q = absurd q
+unread_line s bare (refusals.Token n) q = absurd q
+unread_line s bare (refusals.Deep n) q = absurd q
+unread_line s bare (refusals.Version n) q = absurd q
+unread_line s bare (refusals.Name n) q = absurd q
+unread_line s bare (refusals.Duplicate n) q = absurd q
+unread_line s bare (refusals.Mixed n) q = absurd q
+unread_line s bare (refusals.Label n) q = absurd q
+unread_line s bare (refusals.Table n) q = absurd q
+unread_line s bare (refusals.Level n) q = absurd q
+unread_line s bare (refusals.TooMany n) q = absurd q
+
 module _ (s : spec.System) (bare : List ℕ) (c : CommandLine) (p : is_passed_over bare ≡ false) (h : IsCommandIn bare (Ok c)) where
   abbrev column : ℕ → ℕ
   column n = column_at (length bare) n (map token_of c.tokens)
@@ -196,7 +244,7 @@ module _ (s : spec.System) (bare : List ℕ) (c : CommandLine) (p : is_passed_ov
   asked (Err (refusals.Table n)) q = refused_so edits.wrong_table n q
   asked (Err (refusals.Level n)) q = refused_so edits.wrong_level n q
   asked (Err (refusals.TooMany n)) q = refused_so edits.many n q
-  asked (Err refusals.Memory) q = p
+  asked (Err refusals.Memory) q = (p, subst (λ (r : Result (List syntax.Token) ℕ). IsOk r) (sym h.0) refl)
   asked (Err (refusals.Byte n)) q = absurd q
   asked (Err refusals.LongLine) q = absurd q
   asked (Err (refusals.Token n)) q = absurd q

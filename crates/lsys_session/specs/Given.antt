@@ -1,10 +1,13 @@
 -- What a request is answered, where memory may be wanting.
-use Rattle.std.specs.Prelude.{◌≡◌, ◌≤◌, ℕ, Some, None, Bool, true, false, ◌&&◌, ◌++◌, Option, Result, IfOk, List, codes}
+use Rattle.std.specs.Prelude.{◌≡◌, ◌≤◌, ℕ, Some, None, Bool, true, false, ◌&&◌, ◌++◌, Option, Result, Ok, IfOk, IsOk, List, codes}
 use Rattle.lsys_syntax.specs.Limits.{greatest_module_limit}
 use Rattle.lsys_io.specs.declared.Failed.{Failed}
 use Rattle.lsys_laws.specs.Sessions.{IsWell, HasLevels}
 use Rattle.lsys_syntax.specs.Strings.{string_text}
 use Rattle.lsys_spec.specs.Systems.{System}
+use Rattle.lsys_spec.specs.Levels.{LevelSymbol}
+use Rattle.lsys_spec.specs.Meaning.{last_level, meaning}
+use Rattle.lsys_spec.specs.Images.{image}
 use Rattle.lsys_spec.specs.Lattices.{Lattice}
 use Rattle.lsys_spec.specs.Pictures.{Segment, PictureRefusal, NoImage}
 use Rattle.lsys_spec.specs.PictureTexts.{segments_text, svg_text}
@@ -22,7 +25,7 @@ use Rattle.lsys_session.specs.declared.outcome.Outcome.TheVariants as outcomes
 use Rattle.lsys_session.specs.declared.pictures.Picture.{Picture}
 use Rattle.lsys_session.specs.declared.pictures.Picture.TheVariants as pictures
 use Rattle.lsys_session.specs.declared.request.Request.{Request}
-use Rattle.lsys_session.specs.declared.request.Request.TheVariants.{Nothing, Edit, Segments, Svg, Quit}
+use Rattle.lsys_session.specs.declared.request.Request.TheVariants.{Nothing, Edit, Segments, Svg, Show, Quit}
 
 -- 1. what a session keeps
 
@@ -45,6 +48,19 @@ is_edit r = false
 -- the reply to a request; want of memory may stand in its place, but not where nothing is asked
 abbrev pub given_reply : ℕ → System → Request → Bool → Reply
 given_reply limit s r lacks = memory_or (lacks && is_something r) s (reply_to limit s r)
+
+-- the levels' last one has an image
+abbrev pub HasImage : ℕ → System → Type 0
+HasImage limit s = (levels : List (List LevelSymbol)) → meaning s limit ≡ Ok levels → IsOk (image s (last_level levels))
+
+-- Memory may be wanting for what is asked: for nothing that takes none, and for no picture whose image is refused.
+abbrev pub MayLack : ℕ → System → Request → Type 0
+MayLack limit s Nothing = ⊥
+MayLack limit s Segments = HasImage limit s
+MayLack limit s Svg = HasImage limit s
+MayLack limit s Show = ⊥
+MayLack limit s Quit = ⊥
+MayLack limit s r = Unit {0}
 
 -- what becomes of a request that isn't refused
 abbrev pub request_outcome : Request → Outcome

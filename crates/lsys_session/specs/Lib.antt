@@ -1,3 +1,4 @@
+pub mod ReadLines
 pub mod Requests
 pub mod Sessions
 pub mod Answers

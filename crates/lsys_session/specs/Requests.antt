@@ -1,7 +1,8 @@
 -- What a line asks of a system, and what it is answered.
-use Rattle.std.specs.Prelude.{◌≡◌, ◌≤◌, ◌++◌, ◌∷◌, decimal, ℕ, Option, Some, None, Result, Ok, Err, List, [], codes, length, map, true, false, unwrap_or}
+use Rattle.std.specs.Prelude.{◌≡◌, ◌≢◌, ◌≤◌, ◌++◌, ◌∷◌, decimal, ℕ, Option, Some, None, Result, Ok, Err, List, [], codes, length, map, true, false, IsOk}
+use Rattle.lsys_syntax.specs.Tokens as syntax
 use Rattle.lsys_syntax.specs.Tokens.{tokens}
-use Rattle.lsys_syntax.specs.LineMachine.{sentence, verdict}
+use Rattle.lsys_syntax.specs.LineMachine.{sentence, stops, verdict}
 use Rattle.lsys_spec.specs.Systems as spec
 use Rattle.lsys_spec.specs.Edits as edits
 use Rattle.lsys_spec.specs.Refusals.{Reply, said, refused, session_end, is_passed_over, line_feed, derivation_text, fault_word, with_number}
@@ -99,10 +100,6 @@ query_by kinds.Svg = Some Svg
 query_by kinds.Show = Some Show
 query_by kinds.Quit = Some Quit
 
--- what a command of this kind asks that makes this of a system
-abbrev pub request_by : CommandKind → spec.System → Request
-request_by kind next = unwrap_or (query_by kind) (Edit next)
-
 -- the reply to what a line asks, where it isn't refused for want of memory
 abbrev pub reply_to : ℕ → spec.System → Request → Reply
 reply_to limit s Nothing = said s []
@@ -124,18 +121,23 @@ abbrev pub HasLevel : spec.System → Request → Type 0
 HasLevel s (String (Some t)) = t ≤ s.depth
 HasLevel s r = Unit {0}
 
--- for any limit of the session, this is the reply to the line; want of memory is no answer to a line that is passed over
+-- for any limit of the session, this is the reply to the line; want of memory is no answer to a line that is passed over, or that
+-- has a byte in no token
 abbrev pub IsRequest : spec.System → List ℕ → Result Request Refusal → Type 0
 IsRequest s bare (Ok r) = ((limit : ℕ) → bare_reply limit s bare ≡ reply_to limit s r) × HasLevel s r × IsAskedBy s (bare_spelled bare) r
-IsRequest s bare (Err refusals.Memory) = is_passed_over bare ≡ false
+IsRequest s bare (Err refusals.Memory) = (is_passed_over bare ≡ false) × IsOk (tokens bare)
 IsRequest s bare (Err e) = (limit : ℕ) → bare_reply limit s bare ≡ refused s (refusal_text e)
 
 -- 3. its steps
 
+-- the line isn't refused at its first token: it begins with the word of a command
+abbrev pub BeginsCommand : List ℕ → Type 0
+BeginsCommand bare = (ts : List syntax.Token) → tokens bare ≡ Ok ts → verdict (map (λ (t : syntax.Token). t.kind) ts) ≢ stops 0
+
 -- the command that the line's tokens spell, or why they spell none
 abbrev pub IsCommandIn : List ℕ → Result CommandLine Refusal → Type 0
 IsCommandIn bare (Ok c) = (tokens bare ≡ Ok (map token_of c.tokens)) × (verdict (kind_row c.tokens) ≡ sentence (command_of c.tokens)) × (c.bytes ≡ length bare)
-IsCommandIn bare (Err refusals.Memory) = Unit {0}
+IsCommandIn bare (Err refusals.Memory) = BeginsCommand bare
 IsCommandIn bare (Err e) = (limit : ℕ) (s : spec.System) → tokens_reply limit s (length bare) (tokens bare) ≡ refused s (refusal_text e)
 
 -- what a command asks that nothing refuses, or the first refusal

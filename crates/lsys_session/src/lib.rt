@@ -4,13 +4,14 @@
 mod line;
 mod outcome;
 mod pictures;
+mod read_line;
 mod replies;
 mod request;
 mod sayings;
 mod session;
 
-pub use line::is_without_command;
 pub use outcome::Outcome;
+pub use read_line::ReadLine;
 pub use request::{Request, request_of};
 pub use sayings::{refuse, refuse_far, refuse_image};
 pub use session::{MOST_LINE_BYTES, Session};

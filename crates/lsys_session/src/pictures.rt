@@ -1,6 +1,8 @@
 //! Pictures of the last level, on the lattice that the system names.
-ghost use Rattle.std.specs.Prelude.{◌≡◌, ◌≤◌, []};
+ghost use Rattle.std.specs.Prelude.{◌≡◌, ◌≤◌, [], None, Ok};
+ghost use Rattle.lsys_out.specs.Drawings.{last_image};
 ghost use Rattle.lsys_out.specs.Nesting.{HasLast, image_nesting};
+ghost use Rattle.lsys_session.specs.declared.outcome.Outcome.TheVariants.{Memory};
 ghost use Rattle.lsys_session.specs.Calls.{PrintsPicture, DrawsKind};
 
 use crate::outcome::Outcome;
@@ -38,7 +40,8 @@ pub(crate) fn print_picture<W: LevelView, K: Sink>(
 ) -> Result<Outcome, Failed>
     requires empty { out.old ≡ [] }
     requires last { HasLast system.now (W.levels view.now) }
-    ensures { PrintsPicture kind K.Sink sink out system.now (W.levels view.now) result }
+    ensures prints { PrintsPicture kind K.Sink sink out system.now (W.levels view.now) result }
+    ensures memory { result ≡ Ok Memory → (last_image system.now (W.levels view.now)).refusal ≡ None }
 {
     match system.lattice() {
         LatticeName::Square => print_on::<Square, W, K>(alloc, kind, view, system, out, sink),
@@ -59,9 +62,14 @@ fn print_on<T: Lattice, W: LevelView, K: Sink>(
     requires empty { out.old ≡ [] }
     requires last { HasLast system.now (W.levels view.now) }
     requires lattice { T.shape ≡ system.now.lattice }
-    ensures { PrintsPicture kind K.Sink sink out system.now (W.levels view.now) result }
+    ensures prints { PrintsPicture kind K.Sink sink out system.now (W.levels view.now) result }
+    ensures memory { result ≡ Ok Memory → (last_image system.now (W.levels view.now)).refusal ≡ None }
 {
-    let mut turtle = match Turtle::<T>::new(alloc, image_nesting(view, system)) {
+    let nesting = match image_nesting(view, system) {
+        Ok(nesting) => nesting,
+        Err(refusal) => return refuse_image(out, sink, refusal),
+    };
+    let mut turtle = match Turtle::<T>::new(alloc, nesting) {
         Ok(turtle) => turtle,
         Err(_) => return refuse(out, sink, Refusal::Memory),
     };

@@ -1,11 +1,12 @@
 //! What a line asks of a system.
 ghost use Rattle.std.specs.Prelude.{◌≡◌, ◌≤◌, length};
 ghost use Rattle.lsys_syntax.specs.Limits.{most_line_bytes};
-ghost use Rattle.lsys_session.specs.Requests.{IsCommandIn, IsRequest, IsRequested, query_by, request_by};
+ghost use Rattle.lsys_session.specs.ReadLines.{AreTokensOf};
+ghost use Rattle.lsys_session.specs.Requests.{IsCommandIn, IsRequest, IsRequested, query_by};
 
-use crate::line::is_without_command;
-use lsys_rules::{Command, CommandKind, Refusal, System, apply, parse_command};
-use lsys_text::{TextRefusal, tokens};
+use crate::read_line::ReadLine;
+use lsys_rules::{Command, CommandKind, Refusal, System, apply, check, parse_command};
+use lsys_text::Token;
 use std::alloc::Global;
 
 /// What a line asks that isn't refused by itself.
@@ -27,51 +28,52 @@ pub enum Request {
     Quit,
 }
 
-/// What a line of at most 65,536 bytes, without its LF and CR, asks of a system.
+/// What a line asks of a system. A query takes no copy of the system, and an edit one.
 ///
 /// # Errors
 ///
 /// The first refusal of the line by itself, in the language's order; want of memory comes for no line without a reply, and in
 /// place of no refusal that was found.
-pub fn request_of(alloc: Global, system: &System, line: &[u8]) -> Result<Request, Refusal>
-    requires { length line.now ≤ most_line_bytes }
+pub fn request_of(alloc: Global, system: &System, line: &ReadLine<'_>) -> Result<Request, Refusal>
     ensures { IsRequest system.now line.now result }
 {
-    if is_without_command(line) {
+    let Some(found) = line.tokens() else {
         return Ok(Request::Nothing);
-    }
-    let command = command_in(alloc, line)?;
+    };
+    let command = command_in(alloc, line, found)?;
     requested(alloc, system, &command)
 }
 
-// The command that a line spells.
-fn command_in(alloc: Global, line: &[u8]) -> Result<Command, Refusal>
+/// The same of a line of at most 65,536 bytes, without its LF and CR, that isn't read yet.
+pub(crate) fn request_in(alloc: Global, system: &System, line: &[u8]) -> Result<Request, Refusal>
     requires { length line.now ≤ most_line_bytes }
+    ensures { IsRequest system.now line.now result }
+{
+    let read = ReadLine::new(alloc, line)?;
+    request_of(alloc, system, &read)
+}
+
+// The command that a line's tokens spell.
+fn command_in(alloc: Global, line: &ReadLine<'_>, found: &[Token]) -> Result<Command, Refusal>
+    requires { AreTokensOf line.now found.now }
     ensures { IsCommandIn line.now result }
 {
-    let found = match tokens(alloc, line) {
-        Ok(found) => found,
-        Err(TextRefusal::Byte { column }) => return Err(Refusal::Byte { column }),
-        Err(TextRefusal::Memory) => return Err(Refusal::Memory),
-    };
-    parse_command(alloc, &found, line.len() as u32)
+    parse_command(alloc, found, line.len())
 }
 
 // What a command asks.
 fn requested(alloc: Global, system: &System, command: &Command) -> Result<Request, Refusal>
     ensures { IsRequested system.now command.now result }
 {
-    let next = apply(alloc, system, command)?;
-    Ok(request_by(command.kind(), next))
-}
-
-// What a command of this kind asks that makes this of a system.
-fn request_by(kind: CommandKind, next: System) -> Request
-    ensures { result ≡ request_by kind next }
-{
-    match query_by(kind) {
-        Some(query) => query,
-        None => Request::Edit(next),
+    match query_by(command.kind()) {
+        Some(query) => {
+            check(system, command)?;
+            Ok(query)
+        }
+        None => {
+            let next = apply(alloc, system, command)?;
+            Ok(Request::Edit(next))
+        }
     }
 }
 

@@ -1,15 +1,17 @@
 //! Sessions: one line after another.
-ghost use Rattle.std.specs.Prelude.{◌≡◌, ◌≤◌, [], false, true, IfOk};
+ghost use Rattle.std.specs.Prelude.{◌≡◌, ◌≢◌, ◌≤◌, [], Ok, false, true, IfOk, IsOk};
 ghost use Rattle.lsys_syntax.specs.Limits.{greatest_module_limit};
+ghost use Rattle.lsys_syntax.specs.Tokens.{tokens};
 ghost use Rattle.lsys_spec.specs.Systems.{opening};
-ghost use Rattle.lsys_session.specs.Given.{IsWellUnder, IsLevelWithin, is_edit, level_number};
+ghost use Rattle.lsys_session.specs.Given.{HasImage, IsWellUnder, IsLevelWithin, MayLack, is_edit, level_number};
 ghost use Rattle.lsys_session.specs.Requests.{HasLevel};
+ghost use Rattle.lsys_session.specs.declared.outcome.Outcome.TheVariants.{Accepted, Memory};
 ghost use Rattle.lsys_session.specs.declared.request.Request.TheVariants.{Edit, String};
 ghost use Rattle.lsys_session.specs.Calls.{Quotes, Gives, Answers, LeadsTo, CountsNeed, CountsRequest, CountsAtLine, TellsPicture};
 
 use crate::outcome::Outcome;
 use crate::pictures::{Picture, print_picture};
-use crate::request::{Request, request_of};
+use crate::request::{Request, request_in};
 use crate::sayings::{accept, print_line, refuse, refuse_edit, show_system};
 use lsys_io::{Buffered, Failed, Sink};
 use lsys_level::copy_level;
@@ -23,7 +25,7 @@ use std::sync::ledger::Ledger;
 pub const MOST_LINE_BYTES: usize = 65536;
 
 /// A system that is edited and asked, with its levels under a limit of at most 1,000,000 symbols. Contracts see it as the
-/// derivation that it keeps.
+/// derivation that it keeps: over a forest that is its system, its levels, and its nodes with the answers that they keep.
 #[derive(Drop)]
 pub struct Session<L: Ledger, D: Derivation<L>> {
     derivation: D,
@@ -59,6 +61,11 @@ impl<L: Ledger, D: Derivation<L>> Session<L, D> {
 
     /// Answers a line without its LF and its CR: puts its reply, and goes on from the reply's system.
     ///
+    /// What isn't accepted leaves the session as it was: the derivation that it keeps, with its system, its levels and the answers
+    /// that they keep. What the allocator and `out` have room for stays out of this.
+    ///
+    /// Want of memory is told of no line that has a byte in no token.
+    ///
     /// An accepted edit asks the questions that are new, and an edit whose levels are refused or for which memory is wanting
     /// at most as many as the limit has symbols; nothing else asks any.
     ///
@@ -76,13 +83,15 @@ impl<L: Ledger, D: Derivation<L>> Session<L, D> {
     ) -> Result<Outcome, Failed>
         requires { out.old ≡ [] }
         ensures answers { Answers K.Sink sink out D.limit_of D.system_of self line.now result }
+        ensures unless_accepted { IfOk result (λ o. o ≢ Accepted → self.new ≡ self.old) }
         ensures limit { D.limit_of self.new ≡ D.limit_of self.old }
+        ensures memory { result ≡ Ok Memory → IsOk (tokens line.now) }
         ensures counts { CountsAtLine D.visits D.limit_of D.system_of self asked visited line.now result }
     {
         if line.len() > MOST_LINE_BYTES {
             return refuse(out, sink, Refusal::LongLine);
         }
-        match request_of(alloc, self.derivation.system(), line) {
+        match request_in(alloc, self.derivation.system(), line) {
             Ok(request) => self.answer(alloc, request, out, sink, asked, visited),
             Err(refusal) => refuse(out, sink, refusal),
         }
@@ -105,7 +114,7 @@ impl<L: Ledger, D: Derivation<L>> Session<L, D> {
     }
 
     /// Goes on from another system, as an edit that leads to it: it is accepted where it has its levels under the limit, and
-    /// else refused as such an edit is.
+    /// else refused as such an edit is, and the session is as it was.
     ///
     /// The counters rise as at an edit.
     ///
@@ -123,6 +132,7 @@ impl<L: Ledger, D: Derivation<L>> Session<L, D> {
     ) -> Result<Outcome, Failed>
         requires { out.old ≡ [] }
         ensures leads { LeadsTo K.Sink sink out D.limit_of D.system_of self system result }
+        ensures unless_accepted { IfOk result (λ o. o ≢ Accepted → self.new ≡ self.old) }
         ensures limit { D.limit_of self.new ≡ D.limit_of self.old }
         ensures counts { CountsNeed D.visits D.limit_of D.system_of self asked visited true result }
     {
@@ -131,7 +141,9 @@ impl<L: Ledger, D: Derivation<L>> Session<L, D> {
 
     /// Answers what a line asks of the present system: puts the reply, and goes on from its system.
     ///
-    /// The counters rise as at the line. What is no edit leaves the session as it was.
+    /// The counters rise as at the line. What is no edit, or isn't accepted, leaves the session as it was.
+    ///
+    /// Want of memory is told in place of no refusal that is found without memory: that of a picture's image.
     ///
     /// # Errors
     ///
@@ -150,6 +162,8 @@ impl<L: Ledger, D: Derivation<L>> Session<L, D> {
         ensures gives { Gives K.Sink sink out D.limit_of D.system_of self request result }
         ensures limit { D.limit_of self.new ≡ D.limit_of self.old }
         ensures stays { is_edit request ≡ false → self.new ≡ self.old }
+        ensures unless_accepted { IfOk result (λ o. o ≢ Accepted → self.new ≡ self.old) }
+        ensures memory { result ≡ Ok Memory → MayLack (D.limit_of self.old) (D.system_of self.old) request }
         ensures counts { CountsRequest D.visits D.limit_of D.system_of self asked visited request result }
     {
         match request {
@@ -175,6 +189,7 @@ impl<L: Ledger, D: Derivation<L>> Session<L, D> {
     ) -> Result<Outcome, Failed>
         requires { out.old ≡ [] }
         ensures gives { Gives K.Sink sink out D.limit_of D.system_of self (Edit next) result }
+        ensures unless_accepted { IfOk result (λ o. o ≢ Accepted → self.new ≡ self.old) }
         ensures limit { D.limit_of self.new ≡ D.limit_of self.old }
         ensures counts { CountsNeed D.visits D.limit_of D.system_of self asked visited true result }
     {
@@ -212,7 +227,8 @@ impl<L: Ledger, D: Derivation<L>> Session<L, D> {
         sink: &mut K,
     ) -> Result<Outcome, Failed>
         requires { out.old ≡ [] }
-        ensures { TellsPicture K.Sink sink out D.limit_of D.system_of self.now kind result }
+        ensures tells { TellsPicture K.Sink sink out D.limit_of D.system_of self.now kind result }
+        ensures memory { result ≡ Ok Memory → HasImage (D.limit_of self.now) (D.system_of self.now) }
     {
         let system = self.derivation.system();
         print_picture(alloc, kind, &self.derivation, system, out, sink)

@@ -1,9 +1,15 @@
-use Rattle.std.proofs.Common.{arith, length}
-use Rattle.std.proofs.lemmas.Grind.{elements}
+use Rattle.std.proofs.Common.{◌≡◌, ◌∙◌, None, ap, length, rules}
+use Rattle.lsys_session.specs.ReadLines.{AreTokensOf}
+use Rattle.lsys_desk.proofs.Answering.{asks_by_tokens, passed_asks}
 use Rattle.lsys_desk.proofs.desk_line.desk_line.Goals as goal
 
 pub asked_by-requires : goal.asked_by-requires
-asked_by-requires c = (length c.args.line.now, rw c.deref.ensures.value c.in-Ok.ensures.places)
+asked_by-requires c = (length c.args.line.now, c.in_ok-found.ensures.places)
 
-pub returns-in-Err-Memory-clause-memory : goal.returns-in-Err-Memory-clause-memory
-returns-in-Err-Memory-clause-memory c = grind (arith, elements)
+pub returns-in_err-found : goal.returns-in_err-found
+returns-in_err-found c =
+    let none : c.from_residual.result ≡ None = search rules in
+    rw none (passed_asks c.args.line.now c.in_err-found.ensures)
+
+pub returns : goal.returns
+returns c = asks_by_tokens c.args.line.now c.in_ok-found.found.now c.in_ok-found.ensures ∙ c.asked_by.ensures

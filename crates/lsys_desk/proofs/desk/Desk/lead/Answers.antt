@@ -5,6 +5,7 @@ use Rattle.lsys_desk.specs.Views.{Bench, desk_on}
 use Rattle.lsys_desk.proofs.Leading.{lacking}
 use Rattle.lsys_desk.proofs.Counting.{stay}
 use Rattle.lsys_desk.proofs.Telling.{refusal_tells}
+use Rattle.lsys_session.proofs.Whole.{unchanged}
 use Rattle.lsys_desk.proofs.desk.Desk.lead.Goals as goal
 
 -- 1. no memory to keep the present system
@@ -23,6 +24,9 @@ returns-in-Err-clause-counts g c =
 
 pub returns-in-Err-clause-leads : goal.returns-in-Err-clause-leads
 returns-in-Err-clause-leads g c = refusal_tells (Some c.args.system) outcomes.Memory c.refuse.result refl c.refuse.ensures.outcome
+
+pub returns-in-Err-clause-unless_accepted : goal.returns-in-Err-clause-unless_accepted
+returns-in-Err-clause-unless_accepted g c = unchanged c.refuse.result refl
 
 -- 2. a step from the copy
 

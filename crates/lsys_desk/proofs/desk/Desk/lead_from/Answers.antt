@@ -1,4 +1,5 @@
 use Rattle.std.proofs.Common.{◌≡◌, ◌∙◌, Some, ap, refl, subst, sym, true}
+use Rattle.std.specs.Prelude.{◌≢◌, IfOk}
 use Rattle.lsys_laws.specs.Sessions.{HasLevels}
 use Rattle.lsys_session.specs.Answers.{WasCounted}
 use Rattle.lsys_session.specs.declared.outcome.Outcome.TheVariants as outcomes
@@ -6,7 +7,7 @@ use Rattle.lsys_desk.specs.Answers.{WasServedOrLacked, step_answer}
 use Rattle.lsys_desk.specs.Steps.{LeadsSomewhere, steps_after, steps_by}
 use Rattle.lsys_desk.specs.Views.{Bench, bench, desk_on}
 use Rattle.lsys_desk.proofs.Leading.{step_led}
-use Rattle.lsys_desk.proofs.Keeping.{steps_kept}
+use Rattle.lsys_desk.proofs.Keeping.{stays_unless_accepted, steps_kept}
 use Rattle.lsys_desk.proofs.Motioned.{after_step}
 use Rattle.lsys_desk.specs.Motions.{AreKept, motions_after}
 use Rattle.lsys_desk.proofs.Telling.{unrefused_tells}
@@ -62,3 +63,8 @@ pub returns-clause-leads : goal.returns-clause-leads
 returns-clause-leads g c =
     let leads = c.restore-led.ensures.leads in
     unrefused_tells (Some c.args.system) outcomes.Accepted leads.reply c.restore-led.result refl leads.says.outcome
+
+pub returns-clause-unless_accepted : goal.returns-clause-unless_accepted
+returns-clause-unless_accepted g c =
+    subst (λ (b : Bench _). IfOk c.restore-led.result (λ o. o ≢ outcomes.Accepted → bench c.restore-led.new.self c.take_step.new.history ≡ b)) c.self.view_is
+    (stays_unless_accepted _ _ c.restore-led.result c.args.step c.self.inside.history c.args.present c.restore-led.ensures.unless_accepted c.take_step.ensures)

@@ -11,6 +11,7 @@ use Rattle.lsys_desk.proofs.Leading.{bounds_told, growth_told, place_told}
 use Rattle.lsys_desk.proofs.Counting.{printed_quiet, stay}
 use Rattle.lsys_desks.specs.Costs.{own_leads}
 use Rattle.lsys_desk.proofs.Telling.{tells_same, unrefused_tells}
+use Rattle.lsys_session.proofs.Whole.{unchanged}
 use Rattle.lsys_desk.proofs.desk.Desk.own_line.Goals as goal
 
 pub returns-in-Growth-clause-gives : goal.returns-in-Growth-clause-gives
@@ -83,3 +84,12 @@ returns-in-At-clause-leads g c =
     let reply : Reply = memory_or c.tell_place.ensures.prints.lacks s (place_reply s c.in-At.place c.in-At.column (levels_of limit s)) in
     tells_same None (own_leads d (desk_line_of c.args.line)) c.tell_place.result (ap (λ l. own_leads d (desk_line_of l)) c.in-At.is)
     (unrefused_tells None outcomes.Printed reply c.tell_place.result refl c.tell_place.ensures.prints.says.outcome)
+
+pub returns-in-Growth-clause-unless_accepted : goal.returns-in-Growth-clause-unless_accepted
+returns-in-Growth-clause-unless_accepted g c = unchanged c.answer_growth.result refl
+
+pub returns-in-Bounds-clause-unless_accepted : goal.returns-in-Bounds-clause-unless_accepted
+returns-in-Bounds-clause-unless_accepted g c = unchanged c.tell_bounds.result c.tell_bounds.ensures.stays
+
+pub returns-in-At-clause-unless_accepted : goal.returns-in-At-clause-unless_accepted
+returns-in-At-clause-unless_accepted g c = unchanged c.tell_place.result c.tell_place.ensures.stays

@@ -1,4 +1,4 @@
-use Rattle.std.proofs.Common.{◌∙◌, Ok, Err, None, Some, ap, subst}
+use Rattle.std.proofs.Common.{◌∙◌, Ok, Err, None, Some, refl, ap, subst}
 use Rattle.lsys_spec.specs.Systems.{System}
 use Rattle.lsys_session.specs.Answers.{is_derived}
 use Rattle.lsys_session.specs.Requests.{IsRequest}
@@ -13,6 +13,7 @@ use Rattle.lsys_session.specs.Answers.{line_spelled}
 use Rattle.lsys_session.specs.Given.{request_outcome, given_reply}
 use Rattle.lsys_desk.proofs.Answering.{refusal_refuses}
 use Rattle.lsys_desk.proofs.Telling.{done_unaccepted, edit_leads, query_leads, refusal_tells, tells_same, unrefused_tells}
+use Rattle.lsys_session.proofs.Whole.{unchanged}
 use Rattle.lsys_desk.proofs.desk.Desk.session_line.Goals as goal
 
 -- 1. a line that is refused by itself
@@ -105,3 +106,12 @@ returns-in_default-clause-leads g c =
     let gives = c.answer.ensures.gives in
     rw (← c.self.view_is) (tells_same None (edit_by s (line_spelled c.args.line.now)) c.answer.result (query_leads s c.args.line.now r short asked no_edits)
     (unrefused_tells None (request_outcome r) (given_reply (g.D.Derivation.limit_of c.self.inside.session) s r gives.lacks) c.answer.result (done_unaccepted r no_edits) gives.says.outcome))
+
+-- 5. what isn't accepted
+
+pub returns-in-Err-clause-unless_accepted : goal.returns-in-Err-clause-unless_accepted
+returns-in-Err-clause-unless_accepted g c = unchanged c.refuse.result refl
+
+pub returns-in_default-clause-unless_accepted : goal.returns-in_default-clause-unless_accepted
+returns-in_default-clause-unless_accepted g c =
+    unchanged c.answer.result (ap (λ s. bench s c.self.inside.history) (c.answer.ensures.stays (no_edit c.in-Ok.request c.in_default.not-Edit)) ∙ c.self.view_is)

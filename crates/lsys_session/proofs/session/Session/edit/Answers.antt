@@ -1,6 +1,7 @@
 use Rattle.std.proofs.Common.{ap, subst, sym, rules}
 use Rattle.lsys_laws.specs.Sessions.{IsWell, HasLevels}
 use Rattle.lsys_session.specs.Given.{IsWellUnder}
+use Rattle.lsys_session.proofs.Whole.{unchanged, was_accepted}
 use Rattle.lsys_session.proofs.Editing.{edit_accepted, edit_refused, edit_counted, edit_few}
 use Rattle.lsys_session.proofs.session.Session.edit.Goals as goal
 use Rattle.lsys_session.proofs.session.Session.edit.Goals.{in-Ok, in-Err}
@@ -29,6 +30,14 @@ returns-clause-counts g c =
     (elim c.match-edit.branch [
       | in-Ok w ↦ rw w.result-is (edit_counted g.D.Derivation.visits limit s new c.args.next (record { asked = c.args.asked.now; visited = c.args.visited.now }) (record { asked = c.edit.new.asked; visited = c.edit.new.visited }) kept.0 levels w.in-Ok.count w.accept.result kept.1 w.in-Ok.ensures.outcome w.in-Ok.ensures.counted w.in-Ok.ensures.asked w.in-Ok.ensures.read w.in-Ok.ensures.system w.accept.ensures.outcome)
       | in-Err w ↦ rw w.result-is (edit_few g.D.Derivation.visits limit s new c.args.next (record { asked = c.args.asked.now; visited = c.args.visited.now }) (record { asked = c.edit.new.asked; visited = c.edit.new.visited }) w.in-Err.refusal w.refuse_edit.result w.in-Err.ensures.few_asked w.in-Err.ensures.few_read w.refuse_edit.ensures.outcome)
+    ])
+
+pub returns-clause-unless_accepted : goal.returns-clause-unless_accepted
+returns-clause-unless_accepted g c =
+    rw (← c.self.view_is)
+    (elim c.match-edit.branch [
+      | in-Ok w ↦ rw w.result-is (was_accepted _ w.accept.result w.accept.ensures.outcome)
+      | in-Err w ↦ rw w.result-is (unchanged w.refuse_edit.result w.in-Err.ensures.refused)
     ])
 
 pub invariant_of-self : goal.invariant_of-self
