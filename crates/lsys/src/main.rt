@@ -3,7 +3,7 @@
 
 ghost use Rattle.std.specs.Prelude.{◌≡◌, ◌<◌};
 
-use lsys_cli::{Status, lsys, status_without_words};
+use lsys_cli::{Status, lsys, status_without_words, words_behind_name};
 use lsys_io::{StdSink, StdSource};
 use lsys_match::Steps;
 use std::env;
@@ -11,13 +11,10 @@ use std::marker::Brand;
 use std::process::ExitCode;
 use std::sync::ledger::{Blank, Ledger};
 
-/// The words behind the program's name, or the status where they can't be had.
-fn words_of(rt: &HostRuntime) -> Result<Vec<String>, Status> {
+/// The words that the program is started with, its name first, or the status where they can't be had.
+fn all_words(rt: &HostRuntime) -> Result<Vec<String>, Status> {
     match env::args(rt) {
-        Ok(words) => words
-            .skip(1)
-            .collect(rt.alloc())
-            .map_err(|_| Status::Memory),
+        Ok(words) => words.collect(rt.alloc()).map_err(|_| Status::Memory),
         Err(error) => Err(status_without_words(error.kind())),
     }
 }
@@ -56,8 +53,8 @@ fn run(rt: &HostRuntime, words: &[String]) -> Status {
 }
 
 fn main(rt: HostRuntime) -> ExitCode {
-    let status = match words_of(&rt) {
-        Ok(words) => run(&rt, words.as_slice()),
+    let status = match all_words(&rt) {
+        Ok(words) => run(&rt, words_behind_name(words.as_slice())),
         Err(status) => status,
     };
     if status == Status::Usage {

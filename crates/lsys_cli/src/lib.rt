@@ -24,7 +24,10 @@ use script::run_by;
 pub use status::Status;
 use std::alloc::Global;
 use std::sync::ledger::Ledger;
-pub use words::status_without_words;
+pub use words::{status_without_words, words_behind_name};
+
+/// A desk over a forest: the one that a run answers its lines at.
+pub type Desk<L> = lsys_desk::Desk<L, ForestDerivation<L>>;
 
 /// Answers the lines of a script, from the opening system on: puts the reply to each of them into the sink, to the script's
 /// end or to a `quit` that is heeded, one that isn't refused for want of memory. `words` are the words behind the program's

@@ -1,8 +1,19 @@
-//! Words that can't be had.
-ghost use Rattle.std.specs.Prelude.{◌≡◌, ◌≢◌};
+//! The words that a program is started with, and those that can't be had.
+ghost use Rattle.std.specs.Prelude.{◌≡◌, ◌≢◌, drop};
 
 use crate::status::Status;
 use std::io::ErrorKind;
+
+/// The words behind the program's name, which comes first: all of them, in order, as they are. Where not even the name is there, there
+/// are none.
+pub fn words_behind_name(words: &[String]) -> &[String]
+    ensures { result.now ≡ drop 1 words.now }
+{
+    match words.split_first() {
+        Some((_, behind)) => behind,
+        None => words,
+    }
+}
 
 /// The status where the words of the command line can't be had, by the kind of the error: for want of memory, or since one of
 /// them isn't UTF-8, which makes them wrong.
