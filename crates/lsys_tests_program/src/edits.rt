@@ -3,8 +3,8 @@ use crate::runs::ran_by;
 use crate::same::{is_status, is_written};
 use lsys_cli::Status;
 use lsys_tests_scripts::{
-    Script, algae, bounds_and_places, edits, hostile_lines, limited, pictures, refusals, steps,
-    versions,
+    Script, algae, bounds_and_places, edits, growths, hostile_lines, limited, pictures, refusals,
+    steps, versions,
 };
 use std::alloc::Global;
 use std::process::Abort;
@@ -96,6 +96,11 @@ fn pictures_and_refused_ones(rt: HostRuntime) -> Result<(), Fail> {
 #[test]
 fn bounds_and_places_of_pictures(rt: HostRuntime) -> Result<(), Fail> {
     are_answered(&rt, rt.alloc(), bounds_and_places())
+}
+
+#[test]
+fn growth_of_systems(rt: HostRuntime) -> Result<(), Fail> {
+    are_answered(&rt, rt.alloc(), growths())
 }
 
 /// A script is answered so under a limit.

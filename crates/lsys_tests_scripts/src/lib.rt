@@ -4,6 +4,7 @@
 mod drawing;
 mod editing;
 mod generated;
+mod growing;
 mod limits;
 mod refusing;
 mod stepping;
@@ -12,6 +13,7 @@ mod versioned;
 pub use drawing::{bounds_and_places, pictures};
 pub use editing::edits;
 pub use generated::{long_lines, script_of_images};
+pub use growing::growths;
 pub use limits::{algae, limited};
 pub use refusing::{hostile_lines, refusals};
 pub use stepping::steps;
