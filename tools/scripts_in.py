@@ -1,0 +1,11 @@
+"""The scripts of a folder and of the folders in it, as conformance/cases has them by theme."""
+import os
+
+
+def scripts_in(folder):
+    """The path of each script NAME.lsys below a folder, by their paths in order."""
+    for room, folders, names in os.walk(folder):
+        folders.sort()
+        for name in sorted(names):
+            if name.endswith(".lsys"):
+                yield os.path.join(room, name)
