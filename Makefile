@@ -17,7 +17,7 @@ bin/lsys: $(shell find crates -name '*.rt' -path '*/src/*') $(shell find crates 
 
 help:
 	@echo 'make run [SCRIPT=path]   runs a script, examples/plant_b.lsys by default, and puts its pictures beside it (those of examples/'
-	@echo '                         into build/pictures): 5 to 7 minutes of one processor where a program has to be built, then at once'
+	@echo '                         into build/pictures): 3 to 7 minutes of one processor where a program has to be built, then at once'
 	@echo 'make look [SCRIPT=path]  opens a script in a browser, to be edited beside its picture; without SCRIPT a gallery to begin from'
 	@echo 'make repl [SCRIPT=path]  answers lines on the terminal, as they are typed'
 	@echo 'make test                the tests for between commits, without a proof: some minutes (make check is the same)'

@@ -5,6 +5,8 @@ import re
 import signal
 import subprocess
 
+from patience import PATIENCE
+
 COOKIE = re.compile(r"^([^=;]+=[^;]+);")
 TOKEN = re.compile(r"<meta name=\"token\" content=\"([^\"]+)\"")
 
@@ -69,4 +71,4 @@ class Looking:
         """Its status, and all that it said."""
         self.running.send_signal(signal.SIGINT)
         said = self.said + self.running.stderr.read()
-        return self.running.wait(20), said
+        return self.running.wait(PATIENCE), said

@@ -9,9 +9,13 @@ import time
 import urllib.error
 import urllib.request
 
+from patience import PATIENCE, waited
+
 # Keys, as the driver has them.
 KEYS = {"Control": "\ue009", "Shift": "\ue008", "Alt": "\ue00a", "Enter": "\ue007", "Backspace": "\ue003", "End": "\ue010", "Home": "\ue011",
         "Left": "\ue012", "Up": "\ue013", "Right": "\ue014", "Down": "\ue015", "Delete": "\ue017", "Escape": "\ue00c", "Tab": "\ue004"}
+# Seconds for which the driver waits for a script or a page.
+LONGEST = 10 * PATIENCE
 ELEMENT = "element-6066-11e4-a52e-4f735466cecf"
 
 
@@ -42,7 +46,7 @@ class Browser:
         self.address = "http://127.0.0.1:%s/session" % line.rstrip(".\n").split()[-1]
         words = ["--headless=new", "--no-sandbox", "--disable-gpu", "--window-size=1400,1000"]
         chosen = {"args": words, "prefs": {"download.default_directory": self.folder, "download.prompt_for_download": False}}
-        value = self.call("", {"capabilities": {"alwaysMatch": {"goog:chromeOptions": chosen, "goog:loggingPrefs": {"browser": "ALL"}, "unhandledPromptBehavior": "ignore"}}})
+        value = self.call("", {"capabilities": {"alwaysMatch": {"goog:chromeOptions": chosen, "goog:loggingPrefs": {"browser": "ALL"}, "timeouts": {"script": 1000 * LONGEST, "pageLoad": 1000 * LONGEST}, "unhandledPromptBehavior": "ignore"}}})
         self.session = "/" + value["sessionId"]
         self.tell("Emulation.setFocusEmulationEnabled", {"enabled": True})
 
@@ -70,12 +74,18 @@ class Browser:
 
     def click(self, selector):
         """Clicks an element, which is waited for where it isn't there yet."""
-        for _ in range(30):
+        return self.once(lambda: self.call("/element/%s/click" % self.element(selector), {}))
+
+    def once(self, deed):
+        """Does something as soon as it can be done."""
+        until = time.monotonic() + PATIENCE
+        while True:
             try:
-                return self.call("/element/%s/click" % self.element(selector), {})
+                return deed()
             except RuntimeError:
+                if time.monotonic() > until:
+                    raise
                 time.sleep(0.1)
-        return self.call("/element/%s/click" % self.element(selector), {})
 
     def act(self, kind, actions):
         self.call("/actions", {"actions": [{"type": kind, "id": kind, "actions": actions}]})
@@ -129,28 +139,21 @@ class Browser:
 
     def prompted(self, text=None):
         """Answers a question of the browser's own."""
-        for _ in range(50):
-            try:
-                if text is not None:
-                    self.call("/alert/text", {"text": text})
-                self.call("/alert/accept", {})
-                # The keys that opened it are held no longer.
-                return self.call("/actions", method="DELETE")
-            except RuntimeError:
-                time.sleep(0.1)
-        return None
+        if text is not None:
+            self.once(lambda: self.call("/alert/text", {"text": text}))
+        self.once(lambda: self.call("/alert/accept", {}))
+        # The keys that opened it are held no longer.
+        self.once(lambda: self.call("/actions", method="DELETE"))
 
     def downloaded(self, name):
         """The bytes of a file that a page let one have, once it is whole."""
         path = os.path.join(self.folder, name)
-        for _ in range(100):
-            if os.path.exists(path) and not any(part.endswith(".crdownload") for part in os.listdir(self.folder)):
-                with open(path, "rb") as file:
-                    data = file.read()
-                os.unlink(path)
-                return data
-            time.sleep(0.1)
-        return b""
+        if not waited(lambda: os.path.exists(path) and not any(part.endswith(".crdownload") for part in os.listdir(self.folder)), bool):
+            return b""
+        with open(path, "rb") as file:
+            data = file.read()
+        os.unlink(path)
+        return data
 
     def errors(self):
         """What pages complained of since this was asked last."""

@@ -1,7 +1,8 @@
 """Trials of the page's first minute: a new script, the limit's field, a mark at the head of a file, and a server that was begun anew."""
 import os
 import subprocess
-import time
+
+from patience import PATIENCE
 
 
 def first_minute(trial):
@@ -16,7 +17,7 @@ def first_minute(trial):
     browser.run("lookPage.put(['axiom F', 'production f: F => F+F', 'depth 16', 'svg'], '')")
     trial.expect("the limit is in the way", lambda page: page["refused"] and page["refused"][0].startswith("refused limit level "))
     browser.run("const field = document.getElementById('limit'); field.focus(); field.value = '1000000'; field.dispatchEvent(new Event('change'))")
-    trial.expect("its field raises it", lambda page: not page["refused"] and "ok 65535/65535" in page["replies"], 30)
+    trial.expect("its field raises it", lambda page: not page["refused"] and "ok 65535/65535" in page["replies"])
     browser.run("const field = document.getElementById('limit'); field.value = '2000000'; field.dispatchEvent(new Event('change'))")
     trial.expect("to its greatest value", lambda page: "from 1 to 1,000,000" in page["notice"] and browser.run("return document.getElementById('limit').value") == "1000000")
     browser.keys("Control+s")
@@ -33,15 +34,14 @@ def begun_anew(trial):
     trial.expect("drawn", lambda page: page["lines"] == 2)
     port = trial.address.split(":")[2].split("/")[0]
     trial.look.terminate()
-    trial.look.wait(10)
+    trial.look.wait(PATIENCE)
     again = subprocess.Popen([*trial.look.args, "--port", port], cwd=trial.folder, stderr=subprocess.PIPE, text=True)
     again.stderr.readline()
     trial.expect("the page says that it is another one", lambda page: "started anew" in page["question"])
     trial.expect("and has its text", lambda page: page["script"] == "axiom F+F\nsvg\n")
     again.terminate()
-    again.wait(10)
+    again.wait(PATIENCE)
     again.stderr.close()
-    time.sleep(0.1)
 
 
 TRIALS = [first_minute, begun_anew]

@@ -37,6 +37,12 @@ axiom $
 """
 
 
+# What `rt try` gives the slow program, so that it works for a second of one processor before `rt try` removes it: however much else the
+# machine does, its file is seen. Where that takes too long, the program is there all the same.
+LONG_SCRIPT = b"axiom A\nproduction a: A => AA\ndepth 9\n"
+TOO_LONG = "checked: no-answer: the program did not end within the time limit"
+
+
 class Stages:
     """Tells each stage of a build as it ends, with the seconds of one processor that it took, and meanwhile the seconds that have passed."""
 
@@ -148,10 +154,10 @@ def make_fast(keeper):
 
 def try_crate(crate, work):
     """Runs `rt try` in a crate's folder, all it starts in a group of their own, of which none outlives this call."""
-    running = subprocess.Popen(["rt", "try"], cwd=crate, env={**os.environ, "TMPDIR": work}, stdin=subprocess.DEVNULL, stdout=subprocess.PIPE,
+    running = subprocess.Popen(["rt", "try"], cwd=crate, env={**os.environ, "TMPDIR": work}, stdin=subprocess.PIPE, stdout=subprocess.PIPE,
                                stderr=subprocess.STDOUT, start_new_session=True)
     try:
-        said, _ = running.communicate()
+        said, _ = running.communicate(LONG_SCRIPT)
         return running.returncode, said.decode(errors="replace")
     finally:
         try:
@@ -176,7 +182,7 @@ def build_without_proofs(crate, folder):
             keeper.ended.set()
             keeper.join()
         program = keeper.at("program")
-        if status or not os.path.exists(program):
+        if status and TOO_LONG not in said or not os.path.exists(program):
             sys.stderr.write(said)
             give_up("no program was built: rt try ended with status %d, and said what stands above" % status, status or 1)
         fast = make_fast(keeper)

@@ -7,7 +7,8 @@ import tempfile
 import threading
 import time
 
-from figure import KINDS, Figure, joined
+from figure import Figure, joined
+from formats import MissingProgram, Unfit, Written, titled, wish_of, written
 from hints import LIMIT, MOST_LIMIT, hint
 from programs import TOP
 from replies import lines_of
@@ -187,7 +188,7 @@ class Desk:
 
     def __init__(self, session, path=None, begins=True):
         self.session, self.script = session, Script(path)
-        self.changed = threading.Condition()
+        self.changed, self.writing = threading.Condition(), threading.Lock()
         self.stopped, self.is_cancelled = None, False
         self.turn, self.stopping, self.sign, self.last_asked = 0, False, secrets.token_hex(8), b""
         self.how, self.notice, self.places, self.counts = "", [0, ""], [], None
@@ -386,6 +387,8 @@ class Desk:
                 if os.path.basename(path) != path or path.startswith(".") or "\0" in path:
                     raise Wrong("a name without a folder is wanted", 400)
                 path = os.path.abspath(path)
+                if os.path.dirname(os.path.realpath(path)) != os.path.realpath(os.path.dirname(path)):
+                    raise Wrong("%s leads to another folder" % os.path.basename(path), 400)
                 if os.path.exists(path) and not asked.get("replace"):
                     raise Wrong("there is a file %s already" % os.path.basename(path))
             if path is None:
@@ -476,22 +479,26 @@ class Desk:
             reply = self.from_program(asked).rstrip("\n")
             return {"level": number, "string": reply[:LONGEST_LEVEL], "length": len(reply)}
 
-    def export(self, kind, level, line):
-        """The picture as a file of a kind."""
+    def export(self, kind, level, line, words):
+        """The picture as a file of a kind, as the words say, and what a person should know of it; `segments` is the program's own reply."""
         with self.changed:
-            if kind == "svg" and line is None:
-                def asked():
-                    self.session.stand_at(level)
-                    return self.session.program.ask(b"svg")
-                reply = self.from_program(asked)
-            else:
-                reply = self.segments(level, line)
-            if reply.startswith("refused "):
-                raise Wrong("there is no picture: " + reply.rstrip("\n"))
-            if kind in ("obj", "dxf") or kind == "svg" and line is not None:
-                rows = (tuple(map(int, row.split())) for row in reply.split("\n")[1:-1])
-                return "".join(text + "\n" for text in KINDS[kind](Figure(self.session.lattice(), joined(rows)))).encode()
-            return reply.encode("latin-1")
+            reply, lattice = self.segments(level, line), self.session.lattice()
+            title = titled(self.script.name, level) + ("" if line is None else ", line %d" % (line + 1))
+            script = "\n".join(self.script.lines)
+        if reply.startswith("refused "):
+            raise Wrong("there is no picture: " + reply.rstrip("\n"))
+        if kind == "segments":
+            return Written(reply.encode("latin-1"))
+        try:
+            wish = wish_of(kind, words, title, script)
+            rows = (tuple(map(int, row.split())) for row in reply.split("\n")[1:-1])
+            # One at a time, so that what takes long doesn't take the whole machine.
+            with self.writing:
+                return written(kind, Figure(lattice, joined(rows)), wish)
+        except MissingProgram as why:
+            raise Wrong(str(why), 501) from None
+        except Unfit as why:
+            raise Wrong(str(why), 400) from None
 
     def stop(self):
         """Ends the program and lets the pages go; says whether the text is kept elsewhere."""

@@ -1,4 +1,4 @@
-"""The last level of a script as a figure: runs of connected segments, and the files in which other programs read them.
+"""The last level of a script as a figure: runs of connected segments, and where they are drawn. formats.py writes it for other programs.
 
 Nothing is derived here: the program `lsys` is asked for the segments of its picture, and they are joined. It stands on replies.py
 and on the standard library, and runs where these two files are.
@@ -12,24 +12,67 @@ from replies import Lines, caret_below, commands_of, refusal, reply_from
 QUERIES = (b"string", b"segments", b"svg", b"show", b"bounds")
 NUMBERED = (b"string", b"at", b"growth")
 HALF, HEIGHT = 0.5, math.sqrt(3) / 2
+# The view in space that has three equal angles in the plane: so far turned, and seen from so far above, in degrees. A step along each axis is
+# drawn with the length 1 there, and in other views by the same scale.
+CORNER_TURN, CORNER_TILT, CORNER_SCALE = 45, math.degrees(math.asin(math.sqrt(1 / 3))), math.sqrt(1.5)
 # Where a place of a lattice is in space, and where it is drawn in the plane, upwards; a step has the length 1.
 SPACE = {"square": lambda x, y, z: (x, y, 0), "hexagonal": lambda x, y, z: (x + HALF * y, HEIGHT * y, 0), "cubic": lambda x, y, z: (x, y, z)}
 PLANE = {"square": lambda x, y, z: (x, y), "hexagonal": lambda x, y, z: (x + HALF * y, HEIGHT * y),
          "cubic": lambda x, y, z: (HEIGHT * (x - y), z - HALF * (x + y))}
 
 
-class Refused(Exception):
-    """Lines of the script were refused, each told by its number, itself and its reply; or there was no picture, for which number and line
-    are 0 and nothing."""
+def plane_of(lattice, turn=None, tilt=None):
+    """Where a place of a lattice is drawn in the plane, upwards, in a view: a sheet turned to the right by degrees, or space turned around what
+    is up and seen from so many degrees above. Without a view as in the table."""
+    if turn is None and tilt is None:
+        return PLANE[lattice]
+    if lattice != "cubic":
+        put, along, across = PLANE[lattice], *direction(turn or 0)
+        return lambda x, y, z: turned(*put(x, y, z), along, across)
+    along, across = direction(CORNER_TURN if turn is None else turn)
+    level, steep = direction(CORNER_TILT if tilt is None else tilt)
 
-    def __init__(self, refusals):
-        Exception.__init__(self, refusals)
-        self.refusals = refusals
+    def put(x, y, z):
+        right, back = turned(x, y, along, -across)
+        return CORNER_SCALE * right, CORNER_SCALE * (level * z - steep * back)
+    return put
+
+
+def direction(degrees):
+    """The cosine and the sine, which are whole numbers where they should be."""
+    quarters = {0: (1, 0), 90: (0, 1), 180: (-1, 0), 270: (0, -1)}
+    turn = math.radians(degrees)
+    return quarters.get(degrees % 360) or (math.cos(turn), math.sin(turn))
+
+
+def turned(x, y, along, across):
+    """A place, turned to the right by the angle of this cosine and sine."""
+    return along * x + across * y, along * y - across * x
+
+
+class Refused(Exception):
+    """A script of which lines were refused: each line by its number, itself and its reply; or there was no picture, for which number and
+    line are 0 and nothing."""
+
+    def __init__(self, answered):
+        Exception.__init__(self, answered)
+        self.answered = answered
+
+    def each(self, with_caret=caret_below, meaning=lambda line, reply, taken: ""):
+        """The words for a person, of one refusal after another. `meaning` tells what a refusal means, of its line, its reply and the edits
+        that were taken before."""
+        taken = []
+        for number, line, reply in self.answered:
+            if reply.startswith(b"ok "):
+                taken.append(line)
+            elif number and reply.startswith(b"refused "):
+                yield refusal(number, line, reply, with_caret, meaning(line, reply, taken))
+            elif not number:
+                means = meaning(line, reply, taken) if line else ""
+                yield "no picture: %s" % reply.decode(errors="replace").strip() + (": " + means if means else "")
 
     def told(self, with_caret=caret_below):
-        """The words for a person."""
-        return "\n".join(refusal(number, line, reply, with_caret) if number else "no picture: %s" % reply.decode(errors="replace").strip()
-                         for number, line, reply in self.refusals)
+        return "\n".join(self.each(with_caret))
 
     def __str__(self):
         return self.told()
@@ -49,7 +92,10 @@ class Figure:
 
     def points(self, where):
         """Each run's width and the points of its places, each place put by one of the tables above."""
-        put = where[self.lattice]
+        return self.drawn(where[self.lattice])
+
+    def drawn(self, put):
+        """The same, each place put so."""
         for width, places in self.runs:
             yield width, [put(*place) for place in places]
 
@@ -67,6 +113,11 @@ def joined(segments):
         places.append(stop)
         ends[stop, width] = places
     return runs
+
+
+def figure_in(reply, lattice):
+    """The figure of the segments that a program listed."""
+    return Figure(lattice, joined(tuple(map(int, row.split())) for row in reply.split("\n")[1:-1]))
 
 
 def asked(script, level):
@@ -90,9 +141,8 @@ def figure_of(program, script, level=None, words=()):
     lines = iter(ran.stdout.splitlines(True))
     next_line = lambda: next(lines, b"")
     replies = [next_line() for _ in commands]
-    refusals = [pair + (reply,) for pair, reply in zip(commands, replies) if reply.startswith(b"refused ")]
-    if refusals:
-        raise Refused(refusals)
+    if any(reply.startswith(b"refused ") for reply in replies):
+        raise Refused([pair + (reply,) for pair, reply in zip(commands, replies)])
     shown = list(reply_from(Lines(next_line)))
     first = next_line()
     if not first.startswith(b"segments "):
@@ -102,63 +152,30 @@ def figure_of(program, script, level=None, words=()):
     return Figure(lattice, joined(tuple(map(int, line.split())) for line in lines))
 
 
-def number(value):
-    """A number with at most four places behind the point."""
-    text = ("%.4f" % value).rstrip("0").rstrip(".")
+def number(value, places=4):
+    """A number with at most so many places behind the point."""
+    text = ("%.*f" % (places, value)).rstrip("0").rstrip(".")
     return "0" if text == "-0" else text
 
 
-def path_of(points, step):
+def path_of(points, step, places=4):
     """The words of an SVG path through these points, y going down; it is closed where it ends where it began."""
     is_closed = len(points) > 2 and points[0] == points[-1]
-    places = ["%s,%s" % (number(x * step), number(-y * step)) for x, y in (points[:-1] if is_closed else points)]
-    return "M" + " ".join(places) + ("Z" if is_closed else "")
+    words = ["%s,%s" % (number(x * step, places), number(-y * step, places)) for x, y in (points[:-1] if is_closed else points)]
+    return "M" + " ".join(words) + ("Z" if is_closed else "")
 
 
-def box_of(figure, step, margin):
-    """The words of the least box around a figure and its origin, with a margin: left, top, width and height."""
+def bounds_of(figure, step, margin, put=None):
+    """The least box around a figure and its origin, with a margin: left, top, width and height."""
     xs, ys = [0], [0]
-    for _, points in figure.points(PLANE):
+    for _, points in figure.drawn(put or PLANE[figure.lattice]):
         for x, y in points:
             xs.append(x)
             ys.append(-y)
     left, top = min(xs) * step - margin, min(ys) * step - margin
-    return [number(value) for value in (left, top, (max(xs) - min(xs)) * step + 2 * margin, (max(ys) - min(ys)) * step + 2 * margin)]
+    return left, top, (max(xs) - min(xs)) * step + 2 * margin, (max(ys) - min(ys)) * step + 2 * margin
 
 
-def svg(figure, step=10.0):
-    """The lines of a picture by paths, one for each run."""
-    widest = max([width for width, _ in figure.runs], default=1)
-    yield "<svg xmlns=\"http://www.w3.org/2000/svg\" viewBox=\"%s\">" % " ".join(box_of(figure, step, step * (1 + widest / 20)))
-    yield "<g fill=\"none\" stroke=\"black\" stroke-linecap=\"round\" stroke-linejoin=\"round\">"
-    for width, points in figure.points(PLANE):
-        yield "<path d=\"%s\" stroke-width=\"%s\"/>" % (path_of(points, step), number(width * step / 10))
-    yield "</g>"
-    yield "</svg>"
-
-
-def obj(figure, step=1.0):
-    """The lines of a Wavefront OBJ: the points, each once, and a line through points for each run; a group for each width."""
-    numbers, lines, group = {}, [], None
-    for width, points in figure.points(SPACE):
-        if width != group:
-            group = width
-            lines.append("g width_%d" % width)
-        lines.append("l " + " ".join(str(numbers.setdefault(point, len(numbers) + 1)) for point in points))
-    yield "o lsys"
-    for point in numbers:
-        yield "v " + " ".join(number(value * step) for value in point)
-    yield from lines
-
-
-def dxf(figure, step=1.0):
-    """The lines of a DXF of release 12: a line for each segment, on the layer of its width."""
-    yield from ("0", "SECTION", "2", "HEADER", "9", "$ACADVER", "1", "AC1009", "0", "ENDSEC", "0", "SECTION", "2", "ENTITIES")
-    for width, points in figure.points(SPACE):
-        texts = [tuple(number(value * step) for value in point) for point in points]
-        for start, stop in zip(texts, texts[1:]):
-            yield from ("0", "LINE", "8", "WIDTH_%d" % width, "10", start[0], "20", start[1], "30", start[2], "11", stop[0], "21", stop[1], "31", stop[2])
-    yield from ("0", "ENDSEC", "0", "EOF")
-
-
-KINDS = {"svg": svg, "obj": obj, "dxf": dxf}
+def box_of(figure, step, margin):
+    """The words of that box."""
+    return list(map(number, bounds_of(figure, step, margin)))

@@ -261,7 +261,7 @@ def lookalike(case):
 
 STRANGE = {"{": "there are no surfaces: `{` and `}` belong to another tool, and `[` `]` begin and end a branch", "}": "there are no surfaces: `{` and `}` belong to another tool, and `[` `]` begin and end a branch",
            "~": "`~` draws a surface elsewhere, and there are none here: a homomorphism says what a letter looks like, as in `hom h: L => F`", "$": "`$` turns upright elsewhere: here turns are `+ - & ^ \\ / |`",
-           "\"": "texts stand without quotes", "'": "texts stand without quotes", ".": "a point belongs to no word of the language: numbers are whole", "?": "queries are `string`, `svg`, `show`, `bounds`, `at N`",
+           "\"": "texts stand without quotes", "'": "texts stand without quotes", ".": "a point belongs to no word of the language, and numbers are whole: take it out", "?": "queries are `string`, `svg`, `show`, `bounds`, `at N`",
            "#": "a comment begins with `;` and stands on a line of its own", "_": "a name is a letter, or a letter, `_` and up to six letters or digits"}
 
 
@@ -291,7 +291,7 @@ def angle_told(case):
         return told + (", where +(2) turns by 120" if degrees == "120" else ""), "lattice hexagonal"
     if degrees in ("90", "180"):
         return told, "lattice square"
-    return told + ("; %s degrees can't be turned by" % degrees if degrees else ""), None
+    return told + ("; %s degrees can't be turned by: take the one or the other lattice" % degrees if degrees else ""), None
 
 
 def foreign_word(case):

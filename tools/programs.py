@@ -17,7 +17,7 @@ TOP = os.path.dirname(os.path.dirname(os.path.realpath(__file__)))
 PROVED = [os.path.join(TOP, "bin", "lsys"), os.path.join(TOP, "crates", "lsys", "out", "lsys")]
 UNPROVED = os.path.join(TOP, "build", "lsys-unproved")
 # Of an unproved build, as README.md and `make help` tell it.
-UNPROVED_COST = "5 to 7 minutes"
+UNPROVED_COST = "3 to 7 minutes"
 
 
 def is_checkout():

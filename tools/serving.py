@@ -8,14 +8,16 @@ import sys
 import time
 import urllib.parse
 
+import formats
 from desk import LONGEST_SCRIPT, Wrong
 from programs import TOP
 from telling import say
+from watching import Watching
 
 WEB = os.path.join(os.path.dirname(os.path.realpath(__file__)), "web")
 CODEMIRROR = "/usr/share/javascript/codemirror"
 KINDS = {".html": "text/html; charset=utf-8", ".css": "text/css", ".js": "text/javascript; charset=utf-8", ".svg": "image/svg+xml", ".json": "application/json", ".md": "text/markdown; charset=utf-8"}
-EXPORTS = {"svg": "image/svg+xml", "segments": "text/plain", "obj": "model/obj", "dxf": "image/vnd.dxf"}
+EXPORTS = {"segments": "text/plain", **{kind: media for kind, (_, media) in formats.KINDS.items()}}
 # A page takes nothing from elsewhere, and is shown in no other one.
 POLICY = "default-src 'none'; script-src 'self'; style-src 'self'; img-src 'self' data: blob:; connect-src 'self'; base-uri 'none'; frame-ancestors 'none'; form-action 'none'"
 # A script as JSON, in which a byte may be written by six signs.
@@ -26,13 +28,14 @@ PATIENCE, PATIENCE_WITH_OTHERS, LONGEST_BODY = 10, 2, 60
 MOST_CONNECTIONS = 600
 # What whoever may not ask is told, whatever it was, also a person who opens the address once more.
 NOT_HERE = "Only the browser in which tools/look was opened is answered here. The address for another one is in the terminal where tools/look runs."
-DATA = ("state", "busy", "gallery", "picture", "level", "export")
+# What scripts of the page ask for: these requests have its token. Its own files, which the browser asks for, can have the cookie alone.
+DATA = ("state", "busy", "language", "gallery", "picture", "level", "export", *Watching.PLACES)
 
 
 class Answer(http.server.BaseHTTPRequestHandler):
     """The page, what it shows, and what it changes. Only a page of this server is answered."""
     protocol_version = "HTTP/1.1"
-    desk = gallery = guard = None
+    desk = gallery = guard = watching = None
     is_plain = False
 
     def setup(self):
@@ -169,6 +172,8 @@ class Answer(http.server.BaseHTTPRequestHandler):
             self.send_data(self.desk.level(self.number("text"), self.number("level") or 0))
         elif place == "export" and name in EXPORTS:
             self.send_export(name)
+        elif place in Watching.PLACES:
+            self.watching.get(self, place, name)
         else:
             self.send_wrong(404, "there is nothing here")
 
@@ -180,7 +185,8 @@ class Answer(http.server.BaseHTTPRequestHandler):
     def send_export(self, kind):
         name = "%s.%s" % (os.path.splitext(self.desk.script.name)[0] or "picture", "txt" if kind == "segments" else kind)
         as_file = "attachment; filename=\"%s\"" % re.sub(r"[^\w.-]", "_", name, flags=re.A)
-        self.send(200, EXPORTS[kind], self.desk.export(kind, self.number("level"), self.number("line")), [("Content-Disposition", as_file)])
+        data, told = self.desk.export(kind, self.number("level"), self.number("line"), self.asked)
+        self.send(200, EXPORTS[kind], data, [("Content-Disposition", as_file), *([("X-Told", told)] if told else [])])
 
     def do_POST(self):
         self.answered(self.post_asked)
@@ -195,6 +201,7 @@ class Answer(http.server.BaseHTTPRequestHandler):
         desk = self.desk
         deeds = {"/change": desk.change, "/open": desk.open, "/save": desk.save, "/settle": desk.settle, "/ask": desk.ask, "/limit": desk.set_limit,
                  "/cancel": lambda asked: desk.cancel()}
+        deeds.update({path: lambda asked: self.watching.post(self.path, asked) for path in Watching.DEEDS})
         asked = json.loads(self.body(int(length)))
         if self.path not in deeds or not isinstance(asked, dict):
             return self.send_wrong(404, "there is nothing here")

@@ -310,7 +310,8 @@ class Session:
 
     def stands(self, key, line):
         """Whether this line was sent last of all about its key, and is held or was refused by itself."""
-        return self.tried.get(key) == line and (self.held.get(key) == line or not self.told[key].startswith("ok "))
+        # Of a line that was wrong and left the script meanwhile the reply is no longer known.
+        return self.tried.get(key) == line and (self.held.get(key) == line or not self.told.get(key, "ok ").startswith("ok "))
 
     def rules_keep_their_order(self, edits):
         """Whether rules that stay do so in their order, with those that are new behind them."""

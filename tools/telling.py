@@ -66,7 +66,9 @@ class Words(argparse.ArgumentParser):
         return argparse.ArgumentParser.parse_args(self, *words)
 
     def error(self, message):
-        give_up("%s (%s --help says more)" % (message, os.path.relpath(sys.argv[0])), 2)
+        # A package's command tells by which name it was called.
+        called = os.environ.get("LSYS_CALLED", sys.argv[0])
+        give_up("%s (%s --help says more)" % (message, os.path.relpath(called)), 2)
 
 
 def port(text):

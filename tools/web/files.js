@@ -1,7 +1,5 @@
 // Files that a person asks for, and the link that holds a script.
 
-import { get } from "/web/desk.js";
-
 export function download(blob, name) {
     const link = globalThis.document.createElement("a");
     link.href = URL.createObjectURL(blob);
@@ -18,16 +16,6 @@ export function bytesOf(script) {
         bytes.push(isByte ? Uint8Array.of(part.charCodeAt(0) - 0xDC00) : new TextEncoder().encode(part));
     }
     return new Blob(bytes, { type: "text/plain" });
-}
-
-// A picture as a file of a kind, made by the server from what the program answers.
-export async function fetchExport(kind, level, line) {
-    const words = [];
-    if (level !== null) words.push("level=" + level);
-    if (line !== null) words.push("line=" + line);
-    const answer = await get("/export/" + kind + "?" + words.join("&"));
-    const name = /filename="([^"]*)"/.exec(answer.headers.get("Content-Disposition") || "");
-    download(await answer.blob(), name ? name[1] : "picture." + kind);
 }
 
 async function through(stream, bytes) {

@@ -6,10 +6,11 @@ import { get } from "/web/desk.js";
 
 const at = id => globalThis.document.getElementById(id);
 const LEAST_RANGE = 10;
-const PAUSE = 400;
+// Milliseconds for which a level is seen, by the speed's slider.
+const PACES = [2000, 1000, 400, 200, 100, 40];
 
 export class Levels {
-    // `onDepth` gets the lines with another depth, `onLevel` is called where another level is to be seen.
+    // `onDepth` gets the lines with another depth, `onLevel` is called where another level is to be seen, and gives what is kept once it is seen.
     constructor(lines, onDepth, onLevel) {
         Object.assign(this, { lines, onDepth, onLevel, state: null, chosen: null, playing: null });
         at("depth").addEventListener("input", () => this.setDepth(Number(at("depth").value)));
@@ -19,6 +20,9 @@ export class Levels {
         at("less_level").addEventListener("click", () => this.choose(this.level() - 1));
         at("more_level").addEventListener("click", () => this.choose(this.level() + 1));
         at("play").addEventListener("click", () => this.play());
+        at("pace").addEventListener("input", () => this.tellPace());
+        at("picture").addEventListener("keydown", event => this.key(event));
+        this.tellPace();
         at("string_pane").addEventListener("toggle", () => this.showString());
     }
 
@@ -45,7 +49,7 @@ export class Levels {
         const wanted = Math.max(0, Math.min(depth, level));
         this.chosen = wanted === depth ? null : wanted;
         this.tell();
-        this.onLevel();
+        return this.onLevel();
     }
 
     // A new state of the script. A level past the depth is none any more. While a line is being typed that is refused as it is, depth and
@@ -79,25 +83,52 @@ export class Levels {
         this.showString();
     }
 
-    // Shows level 0 to the depth, one after another; once more, it stops.
+    pace() {
+        return PACES[Number(at("pace").value)];
+    }
+
+    tellPace() {
+        const perSecond = 1000 / this.pace();
+        at("pace_value").textContent = perSecond + (perSecond === 1 ? " level a second" : " levels a second");
+        at("pace").setAttribute("aria-valuetext", at("pace_value").textContent);
+    }
+
+    // Shows the levels to the depth one after another, from this one on, or from level 0 where this is the last one; once more, it stops.
     play() {
         if (this.playing !== null) {
             this.stop();
             return;
         }
         if (!this.state || this.state.depth === 0) return;
-        const step = level => {
+        this.playing = {};
+        this.playOn(this.playing, this.level() === this.state.depth ? 0 : this.level());
+    }
+
+    // A level is seen for the time that was chosen, and not before its picture is there.
+    async playOn(playing, first) {
+        for (let level = first; this.playing === playing; level++) {
             const isLast = level >= this.state.depth;
-            this.playing = isLast ? null : setTimeout(() => step(level + 1), PAUSE);
-            this.show(level);
-        };
-        step(0);
+            if (isLast && !at("loop").checked) this.playing = null;
+            const begun = performance.now();
+            await this.show(level);
+            const left = this.pace() - (performance.now() - begun);
+            if (this.playing === playing) await new Promise(done => setTimeout(done, Math.max(20, left)));
+            if (isLast) level = -1;
+        }
     }
 
     stop() {
-        clearTimeout(this.playing);
         this.playing = null;
         this.tell();
+    }
+
+    // Keys in the picture: a level back and on, the first one and the last one, play.
+    key(event) {
+        const deeds = { ",": () => this.choose(this.level() - 1), ".": () => this.choose(this.level() + 1), " ": () => this.play(), Home: () => this.choose(0),
+            End: () => this.choose(Infinity) };
+        if (event.ctrlKey || event.altKey || event.metaKey || !deeds[event.key]) return;
+        event.preventDefault();
+        deeds[event.key]();
     }
 
     async showString() {

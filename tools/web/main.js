@@ -1,23 +1,27 @@
 // The page: a script and what the program says of it.
 
 import { ASKED_ABOVE, Picture } from "/web/picture.js";
+import { Beside } from "/web/beside.js";
 import { Busy, Desk, GONE, post } from "/web/desk.js";
 import { Completion } from "/web/completing.js";
 import { CodeMirrorField } from "/web/field_codemirror.js";
+import { Exports } from "/web/exports.js";
 import { Gallery } from "/web/gallery.js";
+import { Growth } from "/web/growth.js";
 import { Help } from "/web/help.js";
 import { History } from "/web/history.js";
 import { Levels } from "/web/levels.js";
 import { PlainField } from "/web/field_plain.js";
-import { QUERIES, columnOf, countsMeaning, numberAt, placeOf, withEdit, wordOf } from "/web/language.js";
-import { TEMPLATES, listenForFiles, textOf } from "/web/starting.js";
-import { bytesOf, download, fetchExport, linkOf, scriptOf } from "/web/files.js";
+import { QUERIES, beginOfNames, columnOf, countsMeaning, numberAt, placeOf, withEdit, wordOf } from "/web/language.js";
+import { Sheet } from "/web/sheet.js";
+import { TEMPLATES, heldBy, listenForFiles } from "/web/starting.js";
+import { Film } from "/web/film.js";
+import { scriptOf } from "/web/files.js";
 
 const page = globalThis.document;
 const at = id => page.getElementById(id);
 // A longer script is put into the field only where a person says so.
 const LONG_SCRIPT = 1000000;
-const LONGEST_PNG = 2400;
 const numeral = number => number.toLocaleString("en");
 
 class Page {
@@ -32,8 +36,14 @@ class Page {
             onDrag: (line, column) => this.dragOf(line, column), onCounts: reply => this.tellMeaning(reply), onMeant: (line, meant) => this.takeMeant(line, meant) };
         this.field = globalThis.CodeMirror ? new CodeMirrorField(at("editor"), handlers) : new PlainField(at("editor"), handlers);
         this.picture = new Picture(at("picture"), () => this.tellPicture());
-        this.levels = new Levels(() => this.lines(), lines => this.put(lines, "depth"), () => this.wantPicture());
+        this.levels = new Levels(() => this.lines(), lines => this.put(lines, "depth"), () => this.seeLevel());
+        this.exports = new Exports(this);
+        this.growth = new Growth(() => ({ state: this.state, levels: this.levels, picture: this.picture, line: () => this.line() }));
         this.gallery = new Gallery(name => this.open({ name }));
+        this.beside = new Beside(() => ({ picture: this.picture, lines: () => this.lines() }), lines => this.put(lines, ""));
+        this.picture.onDrawn = () => this.beside.picture && this.beside.held && this.beside.picture.draw();
+        this.film = new Film(() => ({ isGone: this.isGone, state: this.state, desk: this.desk, growth: this.growth, pace: this.levels.pace() }), deed => this.deed(deed), word => this.notice(word));
+        this.sheet = new Sheet({ desk: this.desk, lines: () => this.lines(), caret: () => this.field.caret(), onTaken: lines => this.put(lines, "") });
         this.help = new Help(script => this.open({ name: "from the help", script }));
         this.completion = new Completion(() => ({ lines: this.lines(), caret: this.field.caret(), box: this.field.caretBox() }), (...choice) => this.complete(...choice));
         this.listen();
@@ -129,6 +139,7 @@ class Page {
         this.tellStopped(state.stopped);
         this.levels.take(state, this.lines(), this.isTyping());
         this.tellWhich();
+        if (isNewText) this.growth.frame();
         const isStopped = state.stopped && (state.stopped[0] === null || !state.running);
         if (!isStopped && (isNewText || this.picture.asked === null || this.picture.asked.text !== state.text)) this.wantPicture();
         this.tellPicture();
@@ -239,9 +250,10 @@ class Page {
         }
     }
 
+    // Shows a word. While the server is gone, that is the word, whatever else there were to tell.
     notice(word) {
         at("notice").hidden = !word;
-        at("notice").querySelector("span").textContent = word;
+        at("notice").querySelector("span").textContent = word && this.isGone ? GONE : word;
     }
 
     // Asks for one of two deeds; without a word, asks nothing any more.
@@ -285,7 +297,7 @@ class Page {
     // Offers the text as a file as long as the server is gone.
     askToKeep() {
         this.ask("The text can be kept as a file.", "Save the text as a file", () => {
-            this.export("script");
+            this.exports.export("script");
             this.askToKeep();
         }, null, null, "gone");
     }
@@ -358,16 +370,20 @@ class Page {
 
     // While a line is being typed that is refused as it is, the picture stays.
     wantPicture() {
-        if (this.picture.data && this.isTyping()) {
-            this.tellPicture();
-            return;
-        }
+        if (this.picture.data && this.isTyping()) return this.tellPicture();
         this.drawnFrom = { text: this.state.text, lines: this.lines() };
         const level = this.levels.chosen;
-        this.picture.want(this.state.text, level, level === null ? this.line() : null);
+        return this.picture.want(this.state.text, level, level === null ? this.line() : null);
+    }
+
+    // Another level is to be seen, in the frame of all.
+    async seeLevel() {
+        this.growth.forget();
+        await Promise.all([this.growth.frame(), this.wantPicture()]);
     }
 
     tellPicture() {
+        this.beside.tell();
         const { data, large, refusal } = this.picture;
         const isStale = Boolean(this.state.refused && data && this.drawnFrom && this.drawnFrom.text !== this.state.text);
         at("picture").classList.toggle("stale", isStale || Boolean(large));
@@ -375,7 +391,8 @@ class Page {
         at("large").hidden = !large;
         if (large) at("large").querySelector("span").textContent = "This picture has " + numeral(large.count) + " lines, more than " + numeral(ASKED_ABOVE) + ".";
         const count = data ? numeral(data.count) + (data.count === 1 ? " line" : " lines") : "";
-        const none = data && data.count === 0 ? ": only names that begin with F draw" : "";
+        const isElsewhere = () => this.lines().some(line => !line.startsWith(";") && /[^A-Za-z_]G/.test(line.slice(beginOfNames(line))));
+        const none = data && data.count === 0 ? ": only names that begin with F draw" + (isElsewhere() ? "; G is a letter like others here" : "") : "";
         const word = refusal ? "no picture: " + refusal : data ? count + ", level " + data.level + none : "";
         at("told").textContent = word;
         at("picture").setAttribute("aria-label", word || "no picture yet");
@@ -429,7 +446,8 @@ class Page {
     }
 
     async openFile(file) {
-        this.open({ name: file.name, script: await textOf(file) });
+        const { name, script } = await heldBy(file);
+        return script === null ? this.notice(name + " holds no script of this page's.") : this.open({ name, script });
     }
 
     // The number at the cursor, and what it is to be.
@@ -494,28 +512,12 @@ class Page {
         return null;
     }
 
-    async export(kind) {
-        at("export").open = false;
-        const stem = (this.state.name || "script").replace(/\.lsys$/, "");
-        if (kind === "script") {
-            download(bytesOf(this.lines().join("\n")), stem + ".lsys");
-        } else if (kind === "png") {
-            if (this.picture.data) download(await this.picture.png(LONGEST_PNG), stem + ".png");
-        } else if (kind === "link") {
-            globalThis.history.replaceState(null, "", await linkOf(this.lines().join("\n")));
-            const isCopied = await (navigator.clipboard ? navigator.clipboard.writeText(location.href).then(() => true, () => false) : false);
-            this.notice("The address of this page holds the script now" + (isCopied ? ", and is copied." : ": copy it from the address bar."));
-        } else {
-            const level = this.levels.chosen;
-            await this.deed(() => fetchExport(kind, level, level === null ? this.line() : null));
-        }
-    }
-
     listen() {
         at("undo").onclick = () => this.undo();
         at("redo").onclick = () => this.redo();
         at("save").onclick = () => this.save();
         at("open_gallery").onclick = () => this.openGallery();
+        at("open_sheet").onclick = () => this.sheet.open();
         at("cancel").onclick = () => this.cancel();
         Busy.onLong = told => this.tellBusy(told);
         for (const { name, script } of TEMPLATES) {
@@ -542,7 +544,6 @@ class Page {
         at("counts").onclick = () => this.tellMeaning(null);
         at("limit").onchange = () => this.setLimit(Number(at("limit").value));
         at("which").querySelector("select").onchange = () => this.wantPicture();
-        for (const kind of ["svg", "png", "obj", "dxf", "segments", "script", "link"]) at("export_" + kind).onclick = () => this.export(kind);
         at("number_slider").addEventListener("input", () => this.setNumber(this.numbered.line, this.numbered.column, Number(at("number_slider").value)));
         at("ask").addEventListener("submit", event => {
             event.preventDefault();
@@ -568,7 +569,7 @@ class Page {
         if (isControl) deeds.s = () => this.save();
         if (isControl && key === " " && at("editor").contains(page.activeElement)) deeds[" "] = () => this.completion.open();
         if (key === "f1") deeds.f1 = () => this.deed(() => this.help.toggle());
-        if (event.altKey) Object.assign(deeds, { g: () => this.openGallery(), p: () => this.levels.play(), arrowup: () => this.stepNumber(1), arrowdown: () => this.stepNumber(-1), enter: () => this.takeMeantHere() });
+        if (event.altKey) Object.assign(deeds, { g: () => this.openGallery(), v: () => this.sheet.open(), a: () => this.beside.hold(), p: () => this.levels.play(), arrowup: () => this.stepNumber(1), arrowdown: () => this.stepNumber(-1), enter: () => this.takeMeantHere() });
         const isInText = at("editor").contains(page.activeElement) || page.activeElement === at("line");
         if (isControl && !isInText) Object.assign(deeds, { z: () => event.shiftKey ? this.redo() : this.undo(), y: () => this.redo() });
         if (key === "escape") for (const menu of page.querySelectorAll(".menu[open]")) menu.open = false;

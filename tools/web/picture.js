@@ -1,49 +1,34 @@
 // The picture, drawn on a canvas from the segments that the program lists, as its language says where a place is drawn. One can come
 // nearer, move it, and turn it where it is in space.
 
+import { CORNER, MARGIN, drawAll, fitInto, parse, place, widthsOf } from "/web/drawing.js";
+import { Plate } from "/web/plate.js";
 import { get } from "/web/desk.js";
 
-const FLAT = { square: (x, y) => [10 * x, -10 * y], hexagonal: (x, y) => [20 * x + 10 * y, -17 * y] };
-// The view in space that the program's own picture has, from above a corner: a length of 17 sideways, of 10 down, and of 20 up.
-const CORNER = { spin: 0, turn: Math.PI / 4, tilt: Math.asin(10 / 17) };
-const SPACE = 17 * Math.SQRT2;
-const MARGIN = 10;
 export const ASKED_ABOVE = 200000;
-const ROUND_BELOW = 20000;
 
-// What the server sends: a line with the lattice and the level, and behind it the program's reply.
-export function parse(text) {
-    const first = text.indexOf("\n"), second = text.indexOf("\n", first + 1);
-    const [lattice, level] = text.slice(0, first).split(" ");
-    const reply = text.slice(first + 1, second);
-    const count = /^segments (\d+)$/.exec(reply);
-    if (!count) return { lattice, level: Number(level), refusal: reply, count: 0, places: new Float64Array(0) };
-    const isWhole = text.length > second + 1 || count[1] === "0";
-    const places = new Float64Array(isWhole ? Number(count[1]) * 7 : 0);
-    let at = 0, place = second + 1;
-    for (let value = 0, sign = 1, isIn = false; place < text.length; place++) {
-        const code = text.charCodeAt(place);
-        if (code >= 48 && code <= 57) value = value * 10 + code - 48, isIn = true;
-        else if (code === 45) sign = -1;
-        else if (isIn) places[at++] = sign * value, value = 0, sign = 1, isIn = false;
-    }
-    return { lattice, level: Number(level), refusal: "", count: Number(count[1]), places, isWhole };
+// Whether a view isn't turned.
+export function isCorner(view) {
+    return Object.entries(CORNER).every(([name, value]) => view[name] === value);
 }
 
 export class Picture {
     // `onTold` is called when something else is shown.
     constructor(canvas, onTold) {
-        Object.assign(this, { canvas, onTold, data: null, asked: null, isAsking: false, large: null, wants: null });
+        Object.assign(this, { canvas, onTold, data: null, asked: null, isAsking: false, large: null, wants: null, lit: [], marked: [], frame: null, beside: null, follows: null });
+        this.plate = new Plate(() => this.draw());
         this.view = { ...CORNER, scale: 1, x: 0, y: 0, isFitted: true };
         new ResizeObserver(() => this.draw()).observe(canvas);
         globalThis.matchMedia("(prefers-color-scheme: dark)").addEventListener("change", () => this.draw());
         this.listen();
     }
 
-    // Wants the picture of a text, at a level or of a line. Of what was wanted before, only what comes first is still taken.
+    // Wants the picture of a text, at a level or of a line. Of what was wanted before, only what comes first is still taken. What is given is
+    // kept when all that was wanted has come.
     want(text, level, line) {
         this.wants = { text, level, line, most: this.mostFor(text) };
-        this.ask();
+        if (!this.isAsking) this.asking = this.ask();
+        return this.asking;
     }
 
     mostFor(text) {
@@ -91,44 +76,34 @@ export class Picture {
         return this.data !== null && this.data.lattice === "cubic";
     }
 
-    // Where a place is drawn before the view is moved.
-    flat() {
-        const { spin, turn, tilt } = this.view;
-        if (!this.isInSpace()) {
-            const put = FLAT[this.data.lattice], along = Math.cos(spin), across = Math.sin(spin);
-            return (x, y) => {
-                const [right, down] = put(x, y);
-                return [along * right - across * down, across * right + along * down];
-            };
-        }
-        const across = SPACE * Math.cos(turn), along = SPACE * Math.sin(turn), down = Math.sin(tilt), up = SPACE * Math.cos(tilt);
-        return (x, y, z) => [across * x - along * y, down * (along * x + across * y) - up * z];
-    }
-
     // The ends of all segments as they are drawn, and the box around them and the origin.
     place() {
         if (this.points) return;
-        const { places, count } = this.data, put = this.flat();
-        const points = new Float64Array(4 * count), box = [0, 0, 0, 0];
-        for (let at = 0; at < count; at++) {
-            for (const end of [0, 1]) {
-                const from = 7 * at + 3 * end;
-                const [x, y] = put(places[from], places[from + 1], places[from + 2]);
-                points[4 * at + 2 * end] = x;
-                points[4 * at + 2 * end + 1] = y;
-                box[0] = Math.min(box[0], x);
-                box[1] = Math.min(box[1], y);
-                box[2] = Math.max(box[2], x);
-                box[3] = Math.max(box[3], y);
-            }
-        }
-        Object.assign(this, { points, box });
+        Object.assign(this, place(this.data, this.view));
+        if (!this.widths || this.widths.data !== this.data) this.widths = { data: this.data, groups: widthsOf(this.data) };
     }
 
-    fitInto(width, height) {
-        const [left, top, right, bottom] = this.box;
-        const scale = Math.min(width / (right - left + 2 * MARGIN), height / (bottom - top + 2 * MARGIN));
-        return { scale, x: width / 2 - scale * (left + right) / 2, y: height / 2 - scale * (top + bottom) / 2 };
+    // The box that is fitted: that of the frame's picture, where there is one of this lattice, or the picture's own.
+    boxToFit() {
+        const { beside, data, view } = this, box = this.boxOfFrame();
+        if (!beside || beside.lattice !== data.lattice) return box;
+        const other = place(beside, view).box;
+        return [Math.min(box[0], other[0]), Math.min(box[1], other[1]), Math.max(box[2], other[2]), Math.max(box[3], other[3])];
+    }
+
+    boxOfFrame() {
+        const { frame, data, view } = this;
+        if (!frame || frame.data.lattice !== data.lattice || frame.data === data) return this.box;
+        const turned = [view.spin, view.turn, view.tilt].join();
+        if (frame.turned !== turned) Object.assign(frame, { turned, box: place(frame.data, view).box });
+        return frame.box;
+    }
+
+    // Fits all pictures into the frame that fits this one, until another frame is given or none.
+    setFrame(data) {
+        if (this.frame ? this.frame.data === data : !data) return;
+        this.frame = data ? { data } : null;
+        this.draw();
     }
 
     draw() {
@@ -137,16 +112,55 @@ export class Picture {
         requestAnimationFrame(() => {
             this.isDrawing = false;
             const { clientWidth, clientHeight } = this.canvas, dense = globalThis.devicePixelRatio || 1;
-            this.canvas.width = Math.max(1, Math.round(clientWidth * dense));
-            this.canvas.height = Math.max(1, Math.round(clientHeight * dense));
+            const width = Math.max(1, Math.round(clientWidth * dense)), height = Math.max(1, Math.round(clientHeight * dense));
+            if (this.canvas.width !== width || this.canvas.height !== height) Object.assign(this.canvas, { width, height });
             if (!this.data || !clientWidth) return;
+            const begun = performance.now();
             this.place();
-            if (this.view.isFitted) Object.assign(this.view, this.fitInto(clientWidth, clientHeight));
+            if (this.follows) this.follow(this.follows.view);
+            else if (this.view.isFitted) Object.assign(this.view, fitInto(this.boxToFit(), clientWidth, clientHeight));
             const pen = this.canvas.getContext("2d");
             pen.setTransform(dense, 0, 0, dense, 0, 0);
-            this.drawOn(pen, this.view, getComputedStyle(this.canvas).color);
+            pen.clearRect(0, 0, clientWidth, clientHeight);
+            this.paint(pen, { width: clientWidth, height: clientHeight, dense, ...this.colours(), data: this.data });
             this.tellView();
+            if (this.onDrawn) this.onDrawn();
+            this.canvas.dataset.spent = performance.now() - begun;
+            this.canvas.dataset.drawn = Number(this.canvas.dataset.drawn || 0) + 1;
         });
+    }
+
+    // The picture, and over it what is marked and what is lit: pictures, each with the name of its colour and how wide it is at least.
+    paint(pen, sheet) {
+        this.plate.draw(pen, this.points, this.widths.groups, this.view, sheet);
+        const style = getComputedStyle(this.canvas);
+        for (const { data, colour, wide } of [...this.marked, ...this.lit]) {
+            pen.strokeStyle = style.getPropertyValue(colour).trim();
+            pen.globalAlpha = 0.85;
+            drawAll(pen, place(data, this.view).points, [[Math.max(1, wide / this.view.scale), null]], this.view, sheet);
+            pen.globalAlpha = 1;
+        }
+    }
+
+    // Shows what another picture shows, which is moved and turned there.
+    follow(view) {
+        const isTurned = ["spin", "turn", "tilt"].some(name => view[name] !== this.view[name]);
+        Object.assign(this.view, view, { isFitted: false });
+        if (!isTurned) return;
+        this.points = null;
+        this.place();
+    }
+
+    light(lit) {
+        if (!lit.length && !this.lit.length) return;
+        this.lit = lit;
+        this.draw();
+    }
+
+    // The colour of lines, and in space what they are shaded by.
+    colours() {
+        const ink = getComputedStyle(this.canvas).color, ground = getComputedStyle(globalThis.document.body).backgroundColor;
+        return { colour: ink, shade: this.isInSpace() ? { ink, ground } : null };
     }
 
     tellView() {
@@ -157,24 +171,12 @@ export class Picture {
 
     // All segments, those of one width at once.
     drawOn(pen, view, colour) {
-        const { places, count } = this.data, { points } = this, widths = new Map();
-        for (let at = 0; at < count; at++) {
-            const width = places[7 * at + 6];
-            if (!widths.has(width)) widths.set(width, new Path2D());
-            const path = widths.get(width);
-            path.moveTo(view.x + view.scale * points[4 * at], view.y + view.scale * points[4 * at + 1]);
-            path.lineTo(view.x + view.scale * points[4 * at + 2], view.y + view.scale * points[4 * at + 3]);
-        }
         pen.strokeStyle = colour;
-        pen.lineCap = count < ROUND_BELOW ? "round" : "butt";
-        for (const [width, path] of widths) {
-            pen.lineWidth = Math.max(0.6, width * view.scale);
-            pen.stroke(path);
-        }
+        drawAll(pen, this.points, this.widths.groups, view, pen.canvas);
     }
 
-    // A picture of the whole in points, black on white.
-    async png(longest) {
+    // A picture of the whole in points, black on this ground.
+    async png(longest, ground) {
         this.place();
         const [left, top, right, bottom] = this.box;
         const scale = longest / (Math.max(right - left, bottom - top) + 2 * MARGIN);
@@ -182,9 +184,9 @@ export class Picture {
         sheet.width = Math.ceil(scale * (right - left + 2 * MARGIN));
         sheet.height = Math.ceil(scale * (bottom - top + 2 * MARGIN));
         const pen = sheet.getContext("2d");
-        pen.fillStyle = "white";
+        pen.fillStyle = ground === "none" ? "transparent" : ground;
         pen.fillRect(0, 0, sheet.width, sheet.height);
-        this.drawOn(pen, this.fitInto(sheet.width, sheet.height), "black");
+        this.drawOn(pen, fitInto(this.box, sheet.width, sheet.height), "black");
         return new Promise(done => sheet.toBlob(done, "image/png"));
     }
 
@@ -246,7 +248,8 @@ export class Picture {
             const distance = each => Math.max(1, Math.hypot(each.clientX - other.clientX, each.clientY - other.clientY));
             this.near(distance(event) / distance(before), event.offsetX, event.offsetY);
         } else if (this.isInSpace() && !event.shiftKey) {
-            this.turnBy(x / 150, y / 150);
+            // What is near follows the mouse.
+            this.turnBy(x / 150, -y / 150);
         } else {
             this.move(x, y);
         }

@@ -21,12 +21,28 @@ export const SNIPPETS = [
 ];
 
 // A file's text. A mark at its head stays, of which the server tells; a byte that is none of a sign is told by half a pair, as from the server.
-export async function textOf(file) {
+async function textOf(file) {
     const bytes = new Uint8Array(await file.arrayBuffer());
     try {
         return new TextDecoder("utf-8", { fatal: true, ignoreBOM: true }).decode(bytes);
     } catch (error) {
         return Array.from(bytes, byte => byte < 128 ? String.fromCharCode(byte) : String.fromCharCode(0xDC00 + byte)).join("");
+    }
+}
+
+// A file's script and its name; of an HTML file that the page wrote, the script that it holds, or null.
+export async function heldBy(file) {
+    const text = await textOf(file), isPage = /\.html?$/i.test(file.name), script = isPage ? scriptIn(text) : text;
+    return { name: isPage && script !== null ? file.name.replace(/\.html?$/i, ".lsys") : file.name, script };
+}
+
+function scriptIn(text) {
+    const found = /<script type="application\/json" id="lsys">([^]*?)<\/script>/.exec(text);
+    try {
+        const { script } = JSON.parse(found[1]);
+        return typeof script === "string" ? script : null;
+    } catch (error) {
+        return null;
     }
 }
 
