@@ -142,7 +142,10 @@ def offline(trial):
     browser = trial.browser
     trial.begin(ISLAND)
     expect(trial, "drawn", lambda told: told["lines"] == 256)
-    is_off = lambda is_offline: browser.tell("Network.emulateNetworkConditions", {"offline": is_offline, "latency": 0, "downloadThroughput": -1, "uploadThroughput": -1})
+
+    def is_off(is_offline):
+        browser.tell("Network.emulateNetworkConditions", {"offline": is_offline, "latency": 0, "downloadThroughput": -1, "uploadThroughput": -1})
+
     browser.tell("Network.enable", {})
     try:
         is_off(True)

@@ -3,7 +3,7 @@ as far as they stand without contexts."""
 import re
 import subprocess
 
-from known import NAME, Known, rule_of
+from known import NAME, Known
 
 LEAST, MOST = -2 ** 63, 2 ** 63 - 1
 SECONDS = 3

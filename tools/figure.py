@@ -139,7 +139,10 @@ def figure_of(program, script, level=None, words=()):
     sent, commands = asked(script, level)
     ran = subprocess.run([program] + list(words), input=sent, stdout=subprocess.PIPE, stderr=subprocess.PIPE)
     lines = iter(ran.stdout.splitlines(True))
-    next_line = lambda: next(lines, b"")
+
+    def next_line():
+        return next(lines, b"")
+
     replies = [next_line() for _ in commands]
     if any(reply.startswith(b"refused ") for reply in replies):
         raise Refused([pair + (reply,) for pair, reply in zip(commands, replies)])

@@ -108,7 +108,7 @@ def of_version(line, column, known):
 
 def of_many(line, column, known):
     """Which limit of the language is passed at a column."""
-    text, number = text_of(line), word_at(line, column)
+    text = text_of(line)
     word = text.split()[0]
     if word == "depth":
         return Hint("depth is at most 64, and in version 2 at most 256" + ("" if known.version() > 1 else ": `version 2` at the head of the script allows more"))
@@ -116,7 +116,7 @@ def of_many(line, column, known):
         return Hint("at most 64 names are listed: leave those out that don't stand between others")
     if word == "schedule":
         return Hint("a schedule has at most 64 words: it begins anew behind its last one")
-    before, behind = text[:column - 1], text[column - 1:]
+    before = text[:column - 1]
     if word == "axiom":
         return Hint(PARAMETERS if before.count("(") > before.count(")") else "an axiom has at most 4,096 symbols: let a production make more of fewer")
     if word == "production" and before.count(":") == 0:
