@@ -44,7 +44,7 @@ def typing(trial):
     trial.expect("the island is drawn", lambda page: page["lines"] == 256 and "ok 36/36" in page["replies"] and page["counts"] == "36/36")
     trial.caret_to(1, 100)
     browser.type("(")
-    page = trial.expect("a wrong line is refused, and the picture stays", lambda page: page["lines"] == 256 and page["stale"] and page["refused"]
+    trial.expect("a wrong line is refused, and the picture stays", lambda page: page["lines"] == 256 and page["stale"] and page["refused"]
                         and page["refused"][0].startswith("refused syntax token 35: "))
     trial.shot("refused")
     colour = browser.run("return [getComputedStyle(document.querySelector('.caret-reply')).color, getComputedStyle(document.querySelector('#picture')).opacity]")

@@ -1,10 +1,13 @@
 """The bounds of the house: what passes one of them, and where. A finding that is in the table of known ones (house_known.py) is let
 through as long as it goes no further; an entry that nothing needs any more is a finding too.
 """
+
+from __future__ import annotations
+
 import ast
 import os
+from collections.abc import Callable, Iterator
 from dataclasses import dataclass
-from typing import Callable, Dict, Iterator, List, Tuple
 
 from house_known import KNOWN, NAMED_EDITS, Known
 from programs import TOP
@@ -25,7 +28,7 @@ class Finding:
     figure: int
     told: str
 
-    def key(self) -> Tuple[str, str, str]:
+    def key(self) -> tuple[str, str, str]:
         """By what it is known. A name is meant wherever it stands."""
         return self.bound, "crates" if self.bound.startswith("twice") else self.file, self.name
 
@@ -53,9 +56,9 @@ def names_twice() -> Iterator[Finding]:
                 yield Finding("twice in " + part, near(path), line, name, len(files), told)
 
 
-def used_once() -> Dict[str, List[Tuple[str, int, str]]]:
+def used_once() -> dict[str, list[tuple[str, int, str]]]:
     """Of each crate the exported names, each with its file and line, that no more than one place uses."""
-    found: Dict[str, List[Tuple[str, int, str]]] = {crate: [] for crate in crates()}
+    found: dict[str, list[tuple[str, int, str]]] = {crate: [] for crate in crates()}
     many = uses()
     for name, places in defined().items():
         if many[stem_of(name)] < 2:
@@ -106,7 +109,7 @@ def python_functions(path: str, text: str) -> Iterator[Function]:
             yield Function(path, node.lineno, node.name, many, (node.end_lineno or node.lineno) - node.lineno + 1)
 
 
-def functions(paths: List[str]) -> Iterator[Function]:
+def functions(paths: list[str]) -> Iterator[Function]:
     for path in paths:
         if path.endswith(".rt"):
             yield from functions_in(path, text_of(path))
@@ -139,16 +142,16 @@ def missing_edits() -> Iterator[Finding]:
                 yield Finding("edits", file, 1, name, 1, "this edit has to be there, by which %s" % turns)
 
 
-SEARCHES: Tuple[Callable[[], Iterator[Finding]], ...] = (long_clauses, names_twice, names_once, large_code, missing_edits)
+SEARCHES: tuple[Callable[[], Iterator[Finding]], ...] = (long_clauses, names_twice, names_once, large_code, missing_edits)
 
 
-def all_findings() -> List[Finding]:
+def all_findings() -> list[Finding]:
     return [finding for search in SEARCHES for finding in search()]
 
 
-def compared(findings: List[Finding], known: Tuple[Known, ...] = KNOWN) -> Iterator[str]:
+def compared(findings: list[Finding], known: tuple[Known, ...] = KNOWN) -> Iterator[str]:
     """What is wrong, in a line each: a finding that isn't known, or goes further, and a known one that nothing needs."""
-    worst: Dict[Tuple[str, str, str], Finding] = {}
+    worst: dict[tuple[str, str, str], Finding] = {}
     for finding in findings:
         before = worst.get(finding.key())
         if before is None or before.figure < finding.figure:

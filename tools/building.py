@@ -5,6 +5,9 @@ its way it writes the same code for LLVM, with the toolchain's own checks of eve
 toolchain's compiler makes a second program of that code, optimized, the checks kept and the sanitizer left out. Where that doesn't go
 as expected, or the two programs don't answer alike, the slow one is taken.
 """
+
+from __future__ import annotations
+
 import os
 import signal
 import subprocess
@@ -46,25 +49,25 @@ TOO_LONG = "checked: no-answer: the program did not end within the time limit"
 class Stages:
     """Tells each stage of a build as it ends, with the seconds of one processor that it took, and meanwhile the seconds that have passed."""
 
-    def __init__(self):
+    def __init__(self) -> None:
         self.told = self.begun = spent(below(os.getpid()))
         self.passing = Passing(STAGES[0])
 
-    def __enter__(self):
+    def __enter__(self) -> Stages:
         self.passing.__enter__()
         return self
 
-    def __exit__(self, *_):
+    def __exit__(self, *_: object) -> None:
         self.passing.__exit__()
 
-    def tell(self, what):
+    def tell(self, what: str) -> None:
         now = spent(below(os.getpid()))
         self.passing.clear()
         say("  %2d s of one processor: %s" % (round(now - self.told), what))
         self.told = now
         self.passing.what = STAGES[min(STAGES.index(self.passing.what) + 1, len(STAGES) - 1)]
 
-    def all(self):
+    def all(self) -> float:
         return spent(below(os.getpid())) - self.begun
 
 
@@ -72,12 +75,14 @@ class Keeper(threading.Thread):
     """While `rt try` works in a folder, keeps by links what it writes there and would remove: the code for LLVM, what is linked, and
     the program; and the words by which it calls the compiler and the linker."""
 
-    def __init__(self, work, kept, stages):
+    def __init__(self, work: str, kept: str, stages: Stages) -> None:
         threading.Thread.__init__(self, daemon=True)
         self.work, self.kept, self.stages = work, kept, stages
-        self.ended, self.seen, self.calls, self.has_code, self.has_program = threading.Event(), set(), {}, False, False
+        self.ended, self.has_code, self.has_program = threading.Event(), False, False
+        self.seen: set[str] = set()
+        self.calls: dict[str, list[str]] = {}
 
-    def run(self):
+    def run(self) -> None:
         while not self.ended.is_set():
             for folder, _, files in os.walk(self.work):
                 for name in files:
@@ -86,7 +91,7 @@ class Keeper(threading.Thread):
                 self.note_calls()
             time.sleep(0.01)
 
-    def keep(self, folder, name):
+    def keep(self, folder: str, name: str) -> None:
         path = os.path.join(folder, name)
         if path in self.seen or not (name in ("program", "module.bc") or name.startswith("input-")):
             return
@@ -102,15 +107,15 @@ class Keeper(threading.Thread):
             self.has_program = True
             self.stages.tell("a slow program is linked")
 
-    def link(self, path):
+    def link(self, path: str) -> str:
         link = os.path.join(self.kept, "new")
         os.link(path, link)
         return link
 
-    def at(self, name):
+    def at(self, name: str) -> str:
         return os.path.join(self.kept, name)
 
-    def note_calls(self):
+    def note_calls(self) -> None:
         """The compiler is called twice, the second time for the program."""
         for process in below(os.getpid()):
             tool = os.path.basename(process.words[0])
@@ -118,12 +123,12 @@ class Keeper(threading.Thread):
                 self.calls[tool] = process.words[:-1]
 
 
-def run_in(folder, words):
+def run_in(folder: str, words: list[str]) -> bool:
     """Runs a command, and says whether it ended well."""
     return subprocess.run(words, cwd=folder, stdin=subprocess.DEVNULL, stdout=subprocess.DEVNULL, stderr=subprocess.DEVNULL).returncode == 0
 
 
-def fast_link(words):
+def fast_link(words: list[str]) -> list[str]:
     """The words of the linker for another program's name, and without those that add the sanitizer's library: it is the one that is
     linked whole."""
     first, last = words.index("--whole-archive"), words.index("--no-whole-archive")
@@ -132,12 +137,12 @@ def fast_link(words):
     return words
 
 
-def answer(program):
+def answer(program: str) -> tuple[int, bytes]:
     ran = subprocess.run([program], input=SMALL_SCRIPT, stdout=subprocess.PIPE, stderr=subprocess.DEVNULL)
     return ran.returncode, ran.stdout
 
 
-def make_fast(keeper):
+def make_fast(keeper: Keeper) -> str | None:
     """Makes the fast program of what was kept, and returns its path, or None where the toolchain isn't as expected."""
     try:
         compiler, linker = keeper.calls["clang"], fast_link(keeper.calls["ld.lld"])
@@ -152,7 +157,7 @@ def make_fast(keeper):
         return None
 
 
-def try_crate(crate, work):
+def try_crate(crate: str, work: str) -> tuple[int, str]:
     """Runs `rt try` in a crate's folder, all it starts in a group of their own, of which none outlives this call."""
     running = subprocess.Popen(["rt", "try"], cwd=crate, env={**os.environ, "TMPDIR": work}, stdin=subprocess.PIPE, stdout=subprocess.PIPE,
                                stderr=subprocess.STDOUT, start_new_session=True)
@@ -167,7 +172,7 @@ def try_crate(crate, work):
         running.wait()
 
 
-def build_without_proofs(crate, folder):
+def build_without_proofs(crate: str, folder: str) -> tuple[str, bool]:
     """Builds the program of a crate's folder inside another folder, and returns its path and whether it is a fast one. Ends this
     process where the toolchain can't build it."""
     work, kept = os.path.join(folder, "work"), os.path.join(folder, "kept")

@@ -8,11 +8,15 @@ says so where there is none. NAMEs take those whose name holds one of them.
 What a failing one says is shown. Unproved tests run unoptimized: one that takes more than 20 seconds so is counted as too slow, and is
 left to the gate, `make gate`, which proves everything.
 """
+
+from __future__ import annotations
+
 import os
 import re
 import shutil
 import subprocess
 import time
+from collections.abc import Iterator
 from concurrent.futures import ThreadPoolExecutor, as_completed
 
 from building import NO_TOOLCHAIN
@@ -27,7 +31,7 @@ RESULT = re.compile(r"^test result: \w+\. (\d+) passed; (\d+) failed", re.M)
 TOO_SLOW = "checked: no-answer: the program did not end within the time limit"
 
 
-def crates_with_tests():
+def crates_with_tests() -> Iterator[str]:
     for name in sorted(os.listdir(os.path.join(TOP, "crates"))):
         for folder, _, files in os.walk(os.path.join(TOP, "crates", name, "src")):
             if any("#[test]" in text_of(os.path.join(folder, file)) for file in files):
@@ -35,19 +39,19 @@ def crates_with_tests():
                 break
 
 
-def text_of(path):
+def text_of(path: str) -> str:
     with open(path, encoding="utf-8", errors="replace") as file:
         return file.read()
 
 
-def jobs_for(program):
+def jobs_for(program: str) -> list[tuple[str, list[str], str]]:
     """Each test's name, its words and its folder, those that take longest first."""
     tests = [("tests of " + name, ["rt", "try", "--test", "--seconds", str(SECONDS)], os.path.join(TOP, "crates", name)) for name in crates_with_tests()]
     checks = [("conformance/" + check, [os.path.join(TOP, "conformance", check.split()[0]), *check.split()[1:], "--program", program], TOP) for check in CHECKS]
     return sorted(tests, key=lambda test: "program" not in test[0]) + checks + [("tools/" + tool, [os.path.join(TOP, "tools", tool)], TOP) for tool in ("unused", "proved")]
 
 
-def result_of_tests(said):
+def result_of_tests(said: str) -> tuple[bool, str]:
     """Whether all tests passed but those that were too slow, and that in words."""
     found = RESULT.search(said)
     if not found:
@@ -57,7 +61,7 @@ def result_of_tests(said):
     return failed == slow, "%d tests passed%s" % (passed, ", %d too slow" % slow if slow else "") if failed == slow else said
 
 
-def run(name, words, folder):
+def run(name: str, words: list[str], folder: str) -> tuple[str, bool, float, str]:
     begun = time.time()
     ran = subprocess.run(words, cwd=folder, stdin=subprocess.DEVNULL, stdout=subprocess.PIPE, stderr=subprocess.STDOUT, text=True, errors="replace")
     if words[0] == "rt":
@@ -68,7 +72,7 @@ def run(name, words, folder):
     return name, is_well, time.time() - begun, said
 
 
-def main():
+def main() -> int:
     parser = Words(__doc__)
     parser.add_argument("names", nargs="*")
     parser.add_argument("--jobs", type=int, default=max(1, (os.cpu_count() or 1) // 2))

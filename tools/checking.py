@@ -1,8 +1,12 @@
 """A check of a crate in one process, over the libraries that `rt ci` left in the crates' folders out/, and when each module was written."""
+
+from __future__ import annotations
+
 import os
 import re
 import subprocess
 import sys
+from collections.abc import Sequence
 
 sys.dont_write_bytecode = True
 from programs import TOP
@@ -12,22 +16,22 @@ KIT = "/opt/rattle"
 LIBRARIES = KIT + "/rlibs"
 
 
-def needs():
+def needs() -> dict[str, list[str]]:
     """The crates that each crate names, by its name."""
     with open(os.path.join(TOP, "crates.txt")) as file:
         lines = [line.split(":") for line in file if ":" in line and not line.startswith("#")]
     return {name.strip(): used.split() for name, used in lines}
 
 
-def folder_of(crate):
+def folder_of(crate: str) -> str:
     return os.path.join(TOP, "crates", crate)
 
 
-def library(name):
+def library(name: str) -> str:
     return os.path.join(folder_of(name), "out", "rlib", name + ".rlib")
 
 
-def command(crate, folder, tests=False, only=(), at=None):
+def command(crate: str, folder: str, tests: bool = False, only: Sequence[str] = (), at: str | None = None) -> list[str]:
     """The words of the check of a crate, or of a copy of its folder at `at`. What it checks goes to `folder`."""
     of = needs()
     if crate not in of:
@@ -51,14 +55,14 @@ def command(crate, folder, tests=False, only=(), at=None):
     return said
 
 
-def checked(crate, folder, tests=False, only=(), at=None):
+def checked(crate: str, folder: str, tests: bool = False, only: Sequence[str] = (), at: str | None = None) -> tuple[int, str]:
     """What a check says."""
     ran = subprocess.run(command(crate, folder, tests, only, at), cwd=at or folder_of(crate), stdout=subprocess.PIPE,
                          stderr=subprocess.STDOUT, text=True, check=False)
     return ran.returncode, ran.stdout.rstrip()
 
 
-def modules(folder, since=0):
+def modules(folder: str, since: float = 0) -> list[tuple[float, str]]:
     """When each module was written, and its name, in the order of time."""
     written = []
     for at, _, names in os.walk(folder):
@@ -69,9 +73,9 @@ def modules(folder, since=0):
     return sorted(written)
 
 
-def seconds(written):
+def seconds(written: list[tuple[float, str]]) -> dict[str, float]:
     """The seconds of each module: the time since the one before."""
-    taken = {}
+    taken: dict[str, float] = {}
     for (before, _), (now, name) in zip(written, written[1:]):
         taken[name] = taken.get(name, 0) + now - before
     return taken

@@ -10,6 +10,9 @@ program other than the one that `make` or the gate has proved of these sources g
 texts claim nothing of proofs. The folder is build/ where none is given. What is installed goes below PREFIX, and the extension into the
 folder of Inkscape's extensions, all of it below the folder of --root where one is given.
 """
+
+from __future__ import annotations
+
 import gzip
 import os
 import re
@@ -17,6 +20,8 @@ import shutil
 import subprocess
 import tarfile
 import tempfile
+from collections.abc import Iterator
+from typing import Any
 
 from programs import TOP, is_proved, program_of, shown
 from telling import Words, give_up, say
@@ -68,25 +73,25 @@ exec "${here%%/*}/%s" "$@"
 UNPROVED_NOTE = "This package was made of a program whose proofs were not run: it is tested, and no more is claimed of it (version %s).\n\n"
 
 
-def version(proved):
+def version(proved: bool) -> str:
     with open(os.path.join(TOP, "VERSION")) as file:
         return file.read().strip() + ("" if proved else "+unproved")
 
 
-def blocks_of(text):
+def blocks_of(text: str) -> list[str]:
     """The parts of a text that go together: rows of a table, items of a list, and else what stands between blank lines; of a manual page
     what a request begins."""
     return re.split(r"(?m)(?<=\n)(?=\n|\| |- |\.PP$|\.TP$|\.SH )", text)
 
 
-def without_claims(text):
+def without_claims(text: str) -> str:
     """A text without the sections and parts that speak of what is proved."""
     sections = re.split(r"(?m)^(?=## )", text)
     kept = [section for section in sections if not CLAIM.search(section.split("\n", 1)[0])]
     return "".join(block for section in kept for block in blocks_of(section) if not CLAIM.search(block))
 
 
-def put_text(source, folder, proved):
+def put_text(source: str, folder: str, proved: bool) -> None:
     """Copies a text; that of an unproved program without claims."""
     put(source, folder)
     if not proved:
@@ -97,7 +102,7 @@ def put_text(source, folder, proved):
             file.write((UNPROVED_NOTE % version(False) if path.endswith("README.md") else "") + text)
 
 
-def lay_out_texts(folder, docs, proved):
+def lay_out_texts(folder: str, docs: str, proved: bool) -> None:
     """What a package says of itself, the licences among it."""
     put_text(os.path.join(TOP, "README.md"), folder, proved)
     put_text(os.path.join(TOP, "CHANGELOG.md"), folder, proved)
@@ -113,7 +118,7 @@ def lay_out_texts(folder, docs, proved):
     shutil.copytree(os.path.join(TOP, "editors"), os.path.join(folder, "editors"), dirs_exist_ok=True)
 
 
-def claims_in(root):
+def claims_in(root: str) -> Iterator[str]:
     """The texts below a folder that claim something of proofs. Code is none."""
     for folder, _, names in os.walk(root):
         for name in names:
@@ -123,13 +128,13 @@ def claims_in(root):
                         yield os.path.relpath(os.path.join(folder, name), root)
 
 
-def look_for_claims(root, proved):
+def look_for_claims(root: str, proved: bool) -> None:
     found = [] if proved else list(claims_in(root))
     if found:
         give_up("these texts speak of what is proved, and the program isn't: %s" % ", ".join(found))
 
 
-def put(source, folder, name=None, mode=0o644):
+def put(source: str, folder: str, name: str | None = None, mode: int = 0o644) -> None:
     """Copies a file into a folder, which is made where it isn't there."""
     os.makedirs(folder, exist_ok=True)
     path = os.path.join(folder, name or os.path.basename(source))
@@ -137,7 +142,7 @@ def put(source, folder, name=None, mode=0o644):
     os.chmod(path, mode)
 
 
-def put_command(path, tool):
+def put_command(path: str, tool: str) -> None:
     """Writes a command that runs a tool, whose place is told from the command's own."""
     if os.path.lexists(path):
         os.unlink(path)
@@ -146,7 +151,7 @@ def put_command(path, tool):
     os.chmod(path, 0o755)
 
 
-def put_all(folder, to):
+def put_all(folder: str, to: str) -> None:
     """Copies the plain files of a folder of the repository."""
     for name in sorted(os.listdir(os.path.join(TOP, folder))):
         path = os.path.join(TOP, folder, name)
@@ -154,7 +159,7 @@ def put_all(folder, to):
             put(path, to)
 
 
-def lay_out_tools(root, proved):
+def lay_out_tools(root: str, proved: bool) -> None:
     """The tools that need no toolchain, with the examples and their gallery page, as the repository has them."""
     for name in TOOLS:
         put(os.path.join(TOP, "tools", name), os.path.join(root, "tools"), mode=0o755 if name in COMMANDS else 0o644)
@@ -166,21 +171,21 @@ def lay_out_tools(root, proved):
     put(os.path.join(TOP, "docs", "LANGUAGE.md"), os.path.join(root, "docs"))
 
 
-def lay_out_inkscape(folder):
+def lay_out_inkscape(folder: str) -> None:
     for name in INKSCAPE:
         put(os.path.join(TOP, "tools", "inkscape", name), folder)
     for name in BELOW_INKSCAPE:
         put(os.path.join(TOP, "tools", name), folder)
 
 
-def lay_out_gallery(program, root):
+def lay_out_gallery(program: str, root: str) -> None:
     ran = subprocess.run([os.path.join(TOP, "tools", "gallery"), "--program", program, "--into", os.path.join(root, "gallery")],
                          stdout=subprocess.DEVNULL)
     if ran.returncode:
         give_up("the gallery page can't be made by %s" % program)
 
 
-def tarball(program, folder, name, proved):
+def tarball(program: str, folder: str, name: str, proved: bool) -> str:
     """A folder that one unpacks anywhere: the program in bin/, and `run`, `repl`, `look` and `export` at its top."""
     with tempfile.TemporaryDirectory() as room:
         root = os.path.join(room, name)
@@ -198,25 +203,25 @@ def tarball(program, folder, name, proved):
     return path
 
 
-def by_nobody(member):
+def by_nobody(member: tarfile.TarInfo) -> tarfile.TarInfo:
     member.uid = member.gid = 0
     member.uname = member.gname = "root"
     return member
 
 
-def libc_of(program):
+def libc_of(program: str) -> str:
     """The least version of the C library that a program asks for."""
     with open(program, "rb") as file:
         found = re.findall(rb"GLIBC_(\d+)\.(\d+)", file.read())
     return "%d.%d" % max([(2, 28)] + [tuple(map(int, pair)) for pair in found])
 
 
-def size_of(root):
+def size_of(root: str) -> int:
     """The kilobytes of all files below a folder."""
     return sum(os.lstat(os.path.join(folder, name)).st_size for folder, _, names in os.walk(root) for name in names) // 1024 + 1
 
 
-def lay_out_system(program, prefix, inkscape, proved):
+def lay_out_system(program: str, prefix: str, inkscape: str, proved: bool) -> None:
     """Each part where a system has it: commands in bin/, what they stand on in share/lsys, texts in share/doc/lsys, the manual page, and the
     extension in Inkscape's folder."""
     share = os.path.join(prefix, "share")
@@ -235,7 +240,7 @@ def lay_out_system(program, prefix, inkscape, proved):
         packed.write(page.read())
 
 
-def debian(program, folder, name, proved):
+def debian(program: str, folder: str, name: str, proved: bool) -> str:
     """A package that puts each part where Debian has it."""
     with tempfile.TemporaryDirectory() as room:
         usr = os.path.join(room, "usr")
@@ -253,12 +258,12 @@ def debian(program, folder, name, proved):
     return path
 
 
-def below(root, path):
+def below(root: str | None, path: str) -> str:
     """An absolute path as one below another root."""
     return os.path.join(root, os.path.abspath(path).lstrip("/")) if root else os.path.abspath(path)
 
 
-def install(program, options, proved):
+def install(program: str, options: Any, proved: bool) -> int:
     prefix = below(options.root, options.install)
     inkscape = below(options.root, options.inkscape or os.path.join(options.install, "share", "inkscape", "extensions"))
     lay_out_system(program, prefix, inkscape, proved)
@@ -266,7 +271,7 @@ def install(program, options, proved):
     return 0
 
 
-def main():
+def main() -> int:
     parser = Words(__doc__)
     for word in ("--program", "--install", "--root", "--inkscape"):
         parser.add_argument(word)

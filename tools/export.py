@@ -17,7 +17,11 @@ With --sheet FILE, an .svg or a .png, gets pictures of variants beside each othe
 are processors, and below each how much of it was asked anew of all against the script. VARIES is seed=1..9, depth=0..5, or 3.2=1..9/2: the
 second number of line 3, from 1 to 9 by steps of 2. Two of them make a grid, the second one downwards.
 """
+
+from __future__ import annotations
+
 import os
+from typing import Any, NoReturn
 
 from desk import as_text
 from figure import Refused, figure_of
@@ -31,7 +35,7 @@ from texts import read_script
 WISHES = ("step", "turn", "tilt", "size", "ground")
 
 
-def words_of_tool():
+def words_of_tool() -> Any:
     parser = Words(__doc__)
     parser.add_argument("script")
     parser.add_argument("file")
@@ -58,7 +62,7 @@ def words_of_tool():
     return options
 
 
-def write_sheet(options, script, words):
+def write_sheet(options: Any, script: bytes, words: list[str]) -> int:
     """Writes pictures of variants of the script into one file."""
     lines = as_text(script).replace("\r\n", "\n").split("\n")
     try:
@@ -77,11 +81,11 @@ def write_sheet(options, script, words):
     return 0
 
 
-def tell_refusals(refused, program, options, words):
+def tell_refusals(refused: Refused, program: str, options: Any, words: list[str]) -> NoReturn:
     """Tells each refused line with what was wrong, and that nothing is written."""
     limit = int(options.limit or LIMIT)
 
-    def meaning(line, reply, taken):
+    def meaning(line: bytes, reply: bytes, taken: list[bytes]) -> str:
         return as_told(hint(line, reply.decode("latin-1"), taken, limit, words=[program, *words]))
 
     for text in refused.each(meaning=meaning):
@@ -89,7 +93,7 @@ def tell_refusals(refused, program, options, words):
     give_up("%s is not written" % options.file)
 
 
-def main():
+def main() -> int:
     options = words_of_tool()
     script = read_script(options.script, say)
     words = ["--limit", options.limit] if options.limit else []

@@ -1,9 +1,13 @@
 """Which module, rule and values made a derivation end with a fault: the level is asked of another program, and the rules are worked out
 as far as they stand without contexts."""
+
+from __future__ import annotations
+
 import re
 import subprocess
+from collections.abc import Iterable, Iterator, Mapping, Sequence
 
-from known import NAME, Known
+from known import NAME, Known, Rule
 
 LEAST, MOST = -2 ** 63, 2 ** 63 - 1
 SECONDS = 3
@@ -16,7 +20,7 @@ SAYS = {"divide-by-zero": "`%s` divides by 0", "overflow": "`%s` is past 64 bits
 class Fault(Exception):
     """An expression has a fault: its kind, and the part that has it."""
 
-    def __init__(self, kind, part):
+    def __init__(self, kind: str, part: str) -> None:
         Exception.__init__(self, kind, part)
         self.kind, self.part = kind, part
 
@@ -28,16 +32,16 @@ class Unknown(Exception):
 class Expression:
     """Works an expression out with the values of its names, from left to right."""
 
-    def __init__(self, text, known):
+    def __init__(self, text: str, known: Mapping[str, int]) -> None:
         self.words, self.at, self.known = WORDS.findall(text), 0, known
 
-    def peek(self):
+    def peek(self) -> str:
         return self.words[self.at] if self.at < len(self.words) else ""
 
-    def value(self):
+    def value(self) -> int:
         return self.level(0, True)
 
-    def level(self, number, counts):
+    def level(self, number: int, counts: bool) -> int:
         """The value of what stands at a level of operators. Where it doesn't count, no fault is one."""
         if number == len(LEVELS):
             return self.prefix(counts)
@@ -51,7 +55,7 @@ class Expression:
             left = self.result(sign, left, right, begin, counts)
         return left
 
-    def result(self, sign, left, right, begin, counts):
+    def result(self, sign: str, left: int, right: int, begin: int, counts: bool) -> int:
         if not counts:
             return 0
         if sign in ("/", "%") and right == 0:
@@ -61,15 +65,15 @@ class Expression:
                 "-": lambda: left - right, "*": lambda: left * right, "/": lambda: quotient(left, right), "%": lambda: left - quotient(left, right) * right}[sign]()
         return self.within(made, begin)
 
-    def within(self, value, begin):
+    def within(self, value: int, begin: int) -> int:
         if not LEAST <= value <= MOST:
             raise Fault("overflow", self.part(begin))
         return value
 
-    def part(self, begin):
+    def part(self, begin: int) -> str:
         return "".join(self.words[begin:self.at])
 
-    def prefix(self, counts):
+    def prefix(self, counts: bool) -> int:
         begin, word = self.at, self.peek()
         if word in ("-", "!"):
             self.at += 1
@@ -77,7 +81,7 @@ class Expression:
             return self.within(-value if word == "-" else int(value == 0), begin)
         return self.power(counts)
 
-    def power(self, counts):
+    def power(self, counts: bool) -> int:
         begin, base = self.at, self.atom(counts)
         if self.peek() != "^":
             return base
@@ -91,7 +95,7 @@ class Expression:
             raise Fault("overflow", self.part(begin))
         return self.within(base ** (exponent if abs(base) > 1 else min(exponent, exponent % 2 + 2)) if exponent else 1, begin)
 
-    def atom(self, counts):
+    def atom(self, counts: bool) -> int:
         word = self.peek()
         self.at += 1
         if word == "(":
@@ -107,13 +111,13 @@ class Expression:
         raise Unknown
 
 
-def quotient(left, right):
+def quotient(left: int, right: int) -> int:
     """Cut off toward 0."""
     made = abs(left) // abs(right)
     return made if (left < 0) == (right < 0) else -made
 
 
-def parameters_of(successor):
+def parameters_of(successor: str) -> Iterator[str]:
     """The expressions of the parameters of what a rule puts, one after another."""
     at = 0
     while True:
@@ -130,7 +134,7 @@ def parameters_of(successor):
             at += 1
 
 
-def fault_in(rule, values):
+def fault_in(rule: Rule, values: Sequence[int]) -> tuple[Fault | None, bool]:
     """The fault of a rule for these parameters, or None; whether the rule applies then."""
     known = dict(zip(rule.formals, values))
     if rule.condition and Expression(rule.condition, known).value() == 0:
@@ -142,7 +146,7 @@ def fault_in(rule, values):
     return None, True
 
 
-def culprit(rules, values, kind):
+def culprit(rules: Iterable[Rule], values: Sequence[int], kind: str) -> tuple[Rule, Fault] | None:
     """The first rule that has such a fault, with it; or None where none has, as far as can be told."""
     for rule in rules:
         try:
@@ -158,11 +162,11 @@ def culprit(rules, values, kind):
     return None
 
 
-def modules_of(string):
+def modules_of(string: str) -> list[tuple[str, str]]:
     return [(match.group(1), match.group(2) or "") for match in SYMBOL.finditer(string)]
 
 
-def sent_for(taken, line, level):
+def sent_for(taken: list[bytes], line: bytes, level: int | None) -> list[bytes] | None:
     """The lines whose last reply is the level's string, in the system that the refused line would have made."""
     word = line.split()[0] if line.split() else b""
     if word in (b"undo", b"redo", b"version"):
@@ -171,10 +175,12 @@ def sent_for(taken, line, level):
     return taken + more + ([line] if word not in (b"depth", b"svg", b"segments", b"bounds", b"at") else []) + [b"string"]
 
 
-def told_of_fault(words, taken, line, reply):
+def told_of_fault(words: Sequence[str], taken: list[bytes], line: bytes, reply: str) -> str | None:
     """What is told of a fault: the module with its parameters, the part of the rule that had it and the rule; or None where that isn't
     found. `words` begin the program, `taken` are the edits before the line."""
     found = re.fullmatch(r"refused fault (\S+) (?:level (\d+) module (\d+)|image (\d+))", reply)
+    if found is None:
+        return None
     level, number = (int(found.group(2)), int(found.group(3))) if found.group(2) else (None, int(found.group(4)))
     sent = sent_for(taken, line, level)
     if sent is None:

@@ -1,6 +1,9 @@
 """All levels of a script one after another, in one frame that fits the last one: an SVG that moves by itself, a GIF, and one HTML file that
 holds the script, its replies and its pictures, and needs no server. From such a file, and from a link that holds a script, it is read again.
 """
+
+from __future__ import annotations
+
 import base64
 import html
 import json
@@ -10,6 +13,8 @@ import shutil
 import subprocess
 import tempfile
 import zlib
+from collections.abc import Iterable, Iterator, Sequence
+from typing import Any
 
 from figure import PLANE, figure_in, number
 from formats import paths
@@ -28,16 +33,17 @@ class Unmade(Exception):
     """A film that can't be made, in words for a person."""
 
 
-def box_around(points):
+def box_around(points: Iterable[tuple[float, ...]]) -> tuple[float, float, float, float]:
     """The least box around these points and the origin, y going down."""
-    xs, ys = [0], [0]
+    xs: list[float] = [0]
+    ys: list[float] = [0]
     for x, y in points:
         xs.append(x)
         ys.append(-y)
     return min(xs), min(ys), max(xs), max(ys)
 
 
-def svg_of(levels, lattice, pace, title):
+def svg_of(levels: Sequence[str], lattice: str, pace: float, title: str) -> Iterator[str]:
     """The lines of an SVG in which each level is seen for `pace` seconds, again and again; where nothing moves, the last one is."""
     figures = [figure_in(reply, lattice) for reply in levels]
     left, top, right, bottom = box_around(point for _, points in figures[-1].points(PLANE) for point in points)
@@ -57,12 +63,12 @@ def svg_of(levels, lattice, pace, title):
     yield "</svg>"
 
 
-def text_of(name):
+def text_of(name: str) -> str:
     with open(os.path.join(WEB, name), encoding="utf-8") as file:
         return file.read()
 
 
-def single_of(name, script, replies, levels, lattice, pace):
+def single_of(name: str, script: str, replies: list[list[Any]], levels: Sequence[str], lattice: str, pace: float) -> str:
     """One HTML file. The page's own drawing stands in it, as a script without modules."""
     kept = {"name": name, "script": script, "replies": replies, "lattice": lattice, "pace": pace, "levels": levels}
     # Half pairs, by which bytes are told that are none of a sign, are written as escapes.
@@ -71,7 +77,7 @@ def single_of(name, script, replies, levels, lattice, pace):
     return re.sub(r"\{(name|drawing|player|data)\}", lambda word: parts[word.group(1)], text_of("single.html"))
 
 
-def script_in(page):
+def script_in(page: str) -> str | None:
     """The script that such a file holds, or None."""
     found = DATA.search(page)
     try:
@@ -81,7 +87,7 @@ def script_in(page):
     return script if isinstance(script, str) and len(script) <= LONGEST else None
 
 
-def script_of_link(link):
+def script_of_link(link: str) -> str | None:
     """The script that a link of the page holds, or None."""
     found = LINK.search(link)
     if not found:
@@ -95,16 +101,17 @@ def script_of_link(link):
         return None
 
 
-def makers_of_gif(many, pace):
+def makers_of_gif(many: int, pace: float) -> list[list[str]]:
     """The programs that may make a GIF of so many frames, with their words, those that are here."""
     names = ["png:%04d.png" % place for place in range(many)]
     with_magick = ["-delay", str(max(2, round(100 * pace))), "-loop", "0", *names, "-layers", "Optimize", "gif:film.gif"]
     with_ffmpeg = ["-loglevel", "error", "-framerate", "%g" % (1 / pace), "-i", "%04d.png", "-loop", "0", "film.gif"]
     makers = [("magick", with_magick), ("convert", with_magick), ("ffmpeg", with_ffmpeg)]
-    return [[shutil.which(name)] + words for name, words in makers if shutil.which(name)]
+    found = [(shutil.which(name), words) for name, words in makers]
+    return [[path, *words] for path, words in found if path]
 
 
-def gif_of(frames, pace):
+def gif_of(frames: Sequence[bytes], pace: float) -> bytes:
     """A GIF of frames that are PNGs. Made by another program, the first one that is here and makes it."""
     with tempfile.TemporaryDirectory(prefix="lsys-film-") as folder:
         for place, frame in enumerate(frames):

@@ -3,7 +3,9 @@
 SVG, OBJ and glTF are texts that are written here. PNG and PDF are the SVG's, by rsvg-convert (in Debian: librsvg2-bin), and DXF is written by
 ezdxf (python3-ezdxf). Without rsvg-convert there are no PNG and PDF; without ezdxf the DXF has single lines.
 """
-import collections
+
+from __future__ import annotations
+
 import functools
 import json
 import math
@@ -11,10 +13,15 @@ import os
 import re
 import subprocess
 import sys
+from collections.abc import Iterable, Iterator, Mapping, Sequence
+from typing import Any, NamedTuple
 
 import tubes
-from figure import SPACE, bounds_of, number, path_of, plane_of
+from figure import SPACE, Figure, Put, bounds_of, number, path_of, plane_of
 
+Box = tuple[float, float, float, float]
+# Runs as a DXF is made of them: each a width and its points.
+Runs = list[tuple[int, "list[list[float]]"]]
 HERE = os.path.dirname(os.path.realpath(__file__))
 PYTHON_OF_DEBIAN = "/usr/bin/python3"
 NO_RSVG = "%s is written by rsvg-convert, which isn't installed (in Debian: librsvg2-bin)"
@@ -41,30 +48,38 @@ class MissingProgram(Unfit):
     """It can't be had on this machine, for want of a program."""
 
 
-# What is wanted of a file: the length of a step (None for the kind's own), the view (None for the usual one), the size of the longer side and
-# the colour behind the lines of a PNG or PDF, and the title and the script that it keeps.
-Wish = collections.namedtuple("Wish", "step turn tilt size ground title script", defaults=(None, None, None, None, "none", "", ""))
-# The bytes of a file, and what a person should know of it.
-Written = collections.namedtuple("Written", "data told", defaults=("",))
+class Wish(NamedTuple):
+    """What is wanted of a file: the length of a step (None for the kind's own), the view (None for the usual one), the size of the longer side and
+    the colour behind the lines of a PNG or PDF, and the title and the script that it keeps."""
+    step: float | None = None
+    turn: float | None = None
+    tilt: float | None = None
+    size: float | None = None
+    ground: str = "none"
+    title: str = ""
+    script: str = ""
 
 
-def wish_of(kind, words, title="", script=""):
+class Written(NamedTuple):
+    """The bytes of a file, and what a person should know of it."""
+    data: bytes
+    told: str = ""
+
+
+def wish_of(kind: str, words: Mapping[str, str | None], title: str = "", script: str = "") -> Wish:
     """What texts say is wanted; of a name that is missing or empty, the usual. Raises Unfit where one of them has no sense."""
-    found = {}
-    for name, (least, most) in BOUNDS.items():
-        if words.get(name):
-            found[name] = measure(name, words[name], least, most)
-    if kind in SIZES and words.get("size"):
+    given = {name: text for name, text in words.items() if text}
+    found: dict[str, Any] = {name: measure(name, given[name], least, most) for name, (least, most) in BOUNDS.items() if name in given}
+    if kind in SIZES and "size" in given:
         least, most, _, unit = SIZES[kind]
-        found["size"] = measure("size in " + unit, words["size"], least, most)
-    if words.get("ground"):
-        found["ground"] = words["ground"].lower()
-        if not GROUND.fullmatch(found["ground"]):
-            raise Unfit("the ground is none, a colour's name or #rrggbb, not %s" % words["ground"][:40])
-    return Wish(title=clean(title), script=clean(script), **found)
+        found["size"] = measure("size in " + unit, given["size"], least, most)
+    ground = given.get("ground", "none").lower()
+    if not GROUND.fullmatch(ground):
+        raise Unfit("the ground is none, a colour's name or #rrggbb, not %s" % given["ground"][:40])
+    return Wish(title=clean(title), script=clean(script), ground=ground)._replace(**found)
 
 
-def measure(name, text, least, most):
+def measure(name: str, text: str, least: float, most: float) -> float:
     try:
         value = float(text)
     except ValueError:
@@ -74,28 +89,28 @@ def measure(name, text, least, most):
     return value
 
 
-def clean(text):
+def clean(text: str) -> str:
     """A text with the signs that an XML file can have, and the line ends of one kind."""
     return NO_XML.sub("?", text.replace("\r\n", "\n"))
 
 
-def as_xml(text):
+def as_xml(text: str) -> str:
     return text.replace("&", "&amp;").replace("<", "&lt;").replace(">", "&gt;").replace("\r", "&#13;")
 
 
-def titled(name, level=None):
+def titled(name: str, level: int | None = None) -> str:
     """The title of a picture of the script of this name: at another level than the last one, where one is given."""
     stem = os.path.splitext(os.path.basename(name))[0] or "picture"
     return stem if level is None else "%s, level %d" % (stem, level)
 
 
-def box_of(figure, wish, put):
+def box_of(figure: Figure, wish: Wish, put: Put) -> Box:
     """The box of a drawing; its margin is a step, or more where lines are wide."""
     step, widest = wish.step or 10, max([width for width, _ in figure.runs], default=1)
     return bounds_of(figure, step, step * (1 + widest / 20), put)
 
 
-def fitted(box, longest):
+def fitted(box: Box, longest: float) -> tuple[Box, list[int]]:
     """A box that is so much larger that both of its sides are whole where the longer one has this length, and what they are."""
     left, top, width, height = box
     scale = longest / max(width, height)
@@ -104,7 +119,7 @@ def fitted(box, longest):
     return (left - (wide - width) / 2, top - (high - height) / 2, wide, high), sides
 
 
-def svg_lines(figure, wish, box, thinnest=0):
+def svg_lines(figure: Figure, wish: Wish, box: Box, thinnest: float = 0) -> Iterator[str]:
     """The lines of a drawing by paths, none of them thinner than that."""
     yield "<svg xmlns=\"http://www.w3.org/2000/svg\" viewBox=\"%s\">" % " ".join(number(value, PLACES) for value in box)
     yield "<title>%s</title>" % as_xml(wish.title)
@@ -115,32 +130,32 @@ def svg_lines(figure, wish, box, thinnest=0):
     yield "</svg>"
 
 
-def paths(figure, wish=Wish(), thinnest=0):
+def paths(figure: Figure, wish: Wish = Wish(), thinnest: float = 0) -> Iterator[str]:
     """The paths of a drawing, one for each run, none of them thinner than that."""
     step = wish.step or 10
     for width, points in figure.drawn(plane_of(figure.lattice, wish.turn, wish.tilt)):
         yield "<path d=\"%s\" stroke-width=\"%s\"/>" % (path_of(points, step, PLACES), number(max(width * step / 10, thinnest), PLACES))
 
 
-def svg(figure, wish):
+def svg(figure: Figure, wish: Wish) -> Written:
     box = box_of(figure, wish, plane_of(figure.lattice, wish.turn, wish.tilt))
     return Written(text_of(svg_lines(figure, wish, box)))
 
 
-def text_of(lines):
+def text_of(lines: Iterable[str]) -> bytes:
     return "".join(line + "\n" for line in lines).encode("utf-8", "replace")
 
 
-def png(figure, wish):
+def png(figure: Figure, wish: Wish) -> Written:
     size = round(wish.size or SIZES["png"][2])
     return Written(by_rsvg("png", figure, wish, size, LEAST_LINE / size))
 
 
-def pdf(figure, wish):
+def pdf(figure: Figure, wish: Wish) -> Written:
     return Written(by_rsvg("pdf", figure, wish, round((wish.size or SIZES["pdf"][2]) / 25.4 * 72)))
 
 
-def by_rsvg(kind, figure, wish, size, least=0):
+def by_rsvg(kind: str, figure: Figure, wish: Wish, size: int, least: float = 0) -> bytes:
     """What rsvg-convert makes of the drawing, whose longer side gets this size, in points. The time that a PDF has in it is always the same."""
     wish = wish._replace(step=None)
     box, sides = fitted(box_of(figure, wish, plane_of(figure.lattice, wish.turn, wish.tilt)), size)
@@ -148,7 +163,7 @@ def by_rsvg(kind, figure, wish, size, least=0):
     return run_rsvg(kind, drawn, ["--background-color=" + wish.ground, "--dpi-x=72", "--dpi-y=72", "--width=%d" % sides[0], "--height=%d" % sides[1]])
 
 
-def run_rsvg(kind, drawn, words):
+def run_rsvg(kind: str, drawn: bytes, words: Sequence[str]) -> bytes:
     """What rsvg-convert makes of an SVG."""
     name, environment = kind.upper(), {"SOURCE_DATE_EPOCH": "0", **os.environ}
     try:
@@ -164,9 +179,11 @@ def run_rsvg(kind, drawn, words):
     return ran.stdout
 
 
-def obj(figure, wish):
+def obj(figure: Figure, wish: Wish) -> Written:
     """A Wavefront OBJ: the points, each once, and a line through points for each run; a group for each width."""
-    numbers, lines, group = {}, [], None
+    numbers: dict[tuple[float, ...], int] = {}
+    lines: list[str] = []
+    group = None
     for width, points in figure.points(SPACE):
         if width != group:
             group = width
@@ -177,7 +194,7 @@ def obj(figure, wish):
     return Written(text_of(["# " + " ".join(wish.title.split()), "o lsys", *places, *lines]))
 
 
-def dxf(figure, wish):
+def dxf(figure: Figure, wish: Wish) -> Written:
     """A DXF of release 12: a polyline for each run, on the layer of its width; single lines where there is no ezdxf."""
     step, is_flat = wish.step or 1, figure.lattice != "cubic"
     runs = [(width, [[round(value * step, PLACES) for value in point] for point in points]) for width, points in figure.points(SPACE)]
@@ -188,7 +205,7 @@ def dxf(figure, wish):
         return dxf_by_another(python_with("ezdxf"), is_flat, runs)
 
 
-def dxf_by_another(python, is_flat, runs):
+def dxf_by_another(python: str | None, is_flat: bool, runs: Runs) -> Written:
     """The DXF that another Python makes, where there is one that has ezdxf."""
     if python is None:
         return Written(text_of(dxf_lines(runs)), NO_EZDXF)
@@ -198,7 +215,7 @@ def dxf_by_another(python, is_flat, runs):
     return Written(ran.stdout)
 
 
-def dxf_lines(runs):
+def dxf_lines(runs: Runs) -> Iterator[str]:
     """The lines of a DXF with a line for each segment."""
     yield from ("0", "SECTION", "2", "HEADER", "9", "$ACADVER", "1", "AC1009", "0", "ENDSEC", "0", "SECTION", "2", "ENTITIES")
     for width, points in runs:
@@ -209,7 +226,7 @@ def dxf_lines(runs):
 
 
 @functools.lru_cache(None)
-def python_with(module):
+def python_with(module: str) -> str | None:
     """A Python that has a module of Debian's, which the one that runs this may lack; or None."""
     asked = "import importlib.util, sys; sys.exit(importlib.util.find_spec('%s') is None)" % module
     for python in (sys.executable, PYTHON_OF_DEBIAN):
@@ -218,15 +235,15 @@ def python_with(module):
     return None
 
 
-def glb(figure, wish):
+def glb(figure: Figure, wish: Wish) -> Written:
     return Written(tubes.binary(*gltf_parts(figure, wish)))
 
 
-def gltf(figure, wish):
+def gltf(figure: Figure, wish: Wish) -> Written:
     return Written(tubes.text(*gltf_parts(figure, wish)))
 
 
-def gltf_parts(figure, wish):
+def gltf_parts(figure: Figure, wish: Wish) -> tuple[dict[str, Any], bytes]:
     return tubes.parts(figure.points(SPACE), wish.step or 1, figure.lattice == "cubic", {"title": wish.title, "script": wish.script})
 
 
@@ -235,6 +252,6 @@ KINDS = {"svg": (svg, "image/svg+xml"), "png": (png, "image/png"), "pdf": (pdf, 
          "dxf": (dxf, "image/vnd.dxf"), "glb": (glb, "model/gltf-binary"), "gltf": (gltf, "model/gltf+json")}
 
 
-def written(kind, figure, wish):
+def written(kind: str, figure: Figure, wish: Wish) -> Written:
     """The file of a kind, and what a person should know of it. Raises Unfit where it can't be had."""
     return KINDS[kind][0](figure, wish)

@@ -7,12 +7,16 @@ picture of each script, and then each script with its pictures, the replies that
 nothing. Without --program it is made by a program that is newer than its sources, a proved one where there is one. With --sheet
 only one picture is written, of twelve figures (those that end in * in examples/gallery.txt).
 """
+
+from __future__ import annotations
+
 import html
 import os
 import re
 import subprocess
+from collections.abc import Iterator, Mapping
 
-from figure import PLANE, box_of, figure_of, number, path_of
+from figure import PLANE, Figure, box_of, figure_of, number, path_of
 from programs import TOP, program_of, shown
 from telling import Words, give_up
 
@@ -54,7 +58,7 @@ LEAST_LINE = 0.9
 class Example:
     """A script of examples/, with what the program answers to it."""
 
-    def __init__(self, name, program):
+    def __init__(self, name: str, program: str) -> None:
         self.name = name
         with open(os.path.join(EXAMPLES, name + ".lsys")) as file:
             self.script = file.read()
@@ -62,16 +66,16 @@ class Example:
         self.pictures = PICTURE.findall(written)
         self.replies = PICTURE.sub("(a picture)\n", written)
 
-    def files(self):
+    def files(self) -> list[str]:
         """The names of its pictures' files, as the page's links have them."""
         return ["pictures/%s-%d.svg" % (self.name, number) for number in range(1, len(self.pictures) + 1)]
 
-    def entry(self):
+    def entry(self) -> str:
         """Its place in the contents: the last picture, which is mostly the finished one."""
         image = "<img src=\"%s\" alt=\"\" loading=\"lazy\">" % self.files()[-1] if self.pictures else "<span>%s</span>" % html.escape(self.replies.split("\n")[-2][:60])
         return "<li><a href=\"#%s\">%s%s</a></li>\n" % (self.name, image, self.name)
 
-    def article(self):
+    def article(self) -> str:
         figures = "".join("<figure>\n%s<figcaption><a href=\"%s\">%s</a></figcaption>\n</figure>\n" % (picture, file, os.path.basename(file))
                           for picture, file in zip(self.pictures, self.files()))
         link = "<h3 id=\"%s\"><a href=\"../examples/%s.lsys\">examples/%s.lsys</a></h3>\n" % (self.name, self.name, self.name)
@@ -79,7 +83,7 @@ class Example:
         return "<article>\n<div class=\"pictures\">\n%s</div>\n<div class=\"script\">\n%s</div>\n</article>\n" % (figures, link + texts)
 
 
-def order():
+def order() -> list[str]:
     """The lines of examples/gallery.txt: headings, and names of scripts that are there, of which some are marked for the sheet."""
     with open(os.path.join(EXAMPLES, "gallery.txt")) as file:
         lines = file.read().split("\n")[:-1]
@@ -90,7 +94,7 @@ def order():
     return lines
 
 
-def page(lines, examples):
+def page(lines: list[str], examples: Mapping[str, Example]) -> str:
     contents, articles, is_open = ["<nav>\n"], [], False
     for line in lines:
         if line.startswith("#"):
@@ -105,7 +109,7 @@ def page(lines, examples):
     return HEAD + "".join(contents) + "</ul>\n</nav>\n" + "".join(articles) + "</body>\n</html>\n"
 
 
-def write_page(folder, lines, examples):
+def write_page(folder: str, lines: list[str], examples: Mapping[str, Example]) -> None:
     os.makedirs(os.path.join(folder, "pictures"), exist_ok=True)
     with open(os.path.join(folder, "index.html"), "w") as file:
         file.write(page(lines, examples))
@@ -118,7 +122,7 @@ def write_page(folder, lines, examples):
         shown(os.path.join(folder, "index.html")), len(pictures), len(pictures) - pictures.count(0), sum(pictures)))
 
 
-def figure_at(place, name, figure):
+def figure_at(place: int, name: str, figure: Figure) -> str:
     """A figure of the sheet, in its own room, with its name below. Its lines are at least as wide as can be seen there."""
     left, top = place % COLUMNS * (ROOM + MARGIN) + MARGIN, place // COLUMNS * (ROOM + NAME_ROOM + MARGIN) + MARGIN
     step = 10 if figure.lattice == "square" else 20
@@ -129,7 +133,7 @@ def figure_at(place, name, figure):
         left, top, ROOM, ROOM, " ".join(box), paths, left + ROOM // 2, top + ROOM + NAME_ROOM - 8, name)
 
 
-def sheet(program, names):
+def sheet(program: str, names: list[str]) -> Iterator[str]:
     rows = -(-len(names) // COLUMNS)
     width, height = COLUMNS * (ROOM + MARGIN) + MARGIN, rows * (ROOM + NAME_ROOM + MARGIN) + MARGIN
     yield "<svg xmlns=\"http://www.w3.org/2000/svg\" viewBox=\"0 0 %d %d\">\n<rect width=\"100%%\" height=\"100%%\" fill=\"white\"/>\n" % (width, height)
@@ -140,7 +144,7 @@ def sheet(program, names):
     yield "</g>\n</svg>\n"
 
 
-def main():
+def main() -> int:
     parser = Words(__doc__)
     parser.add_argument("--program")
     parser.add_argument("--into", default=os.path.join(TOP, "gallery"))

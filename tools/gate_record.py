@@ -1,20 +1,26 @@
 """Records of what the gate took, as tools/gate_times writes them, and the part of docs/GATE.md that is made of one."""
-import collections
+
+from __future__ import annotations
+
 import os
 import re
+from collections import Counter
+from collections.abc import Mapping
 
 from pages import table
 from programs import TOP
 
+# A crate, a kind and the name of an edit.
+Step = tuple[str, str, str]
 PROOF, TESTS, GROUND, EDIT = "proof", "tests", "ground of its edits", "must-fail edit"
 KINDS = (PROOF, TESTS, GROUND, EDIT)
 DEAR_EDIT = 30
 LINE = re.compile(r"^times: +(\d+) s  (\w+): (%s)(?: (\S+))?" % "|".join(KINDS))
 
 
-def taken_in(text):
+def taken_in(text: str) -> Counter[Step]:
     """The seconds of each step of a record."""
-    taken = collections.Counter()
+    taken: Counter[Step] = Counter()
     for line in text.split("\n"):
         found = LINE.match(line)
         if found:
@@ -22,39 +28,39 @@ def taken_in(text):
     return taken
 
 
-def crates():
+def crates() -> list[str]:
     """The crates' names, in the order of crates.txt."""
     with open(os.path.join(TOP, "crates.txt"), encoding="utf-8") as file:
         return [line.split(":")[0].strip() for line in file if ":" in line and not line.startswith("#")]
 
 
-def edits_of(crate):
+def edits_of(crate: str) -> list[str]:
     folder = os.path.join(TOP, "crates", crate, "must-fail")
     return [name[:-5] for name in sorted(os.listdir(folder)) if name.endswith(".edit")] if os.path.isdir(folder) else []
 
 
-def lacking(taken):
+def lacking(taken: Mapping[Step, float]) -> list[Step]:
     """The steps of the whole gate that a record hasn't: a proof of each crate, and each edit."""
     steps = [(crate, PROOF, "") for crate in crates()] + [(crate, EDIT, edit) for crate in crates() for edit in edits_of(crate)]
     return [step for step in steps if step not in taken]
 
 
-def minutes(seconds):
+def minutes(seconds: float) -> str:
     return "%.1f" % (seconds / 60) if seconds else ""
 
 
-def sum_of(taken, crate, kind):
+def sum_of(taken: Mapping[Step, float], crate: str, kind: str) -> float:
     return sum(seconds for (name, one, _), seconds in taken.items() if name == crate and one == kind)
 
 
-def row_of(taken, crate):
+def row_of(taken: Mapping[Step, float], crate: str) -> list[str]:
     proof, tests, ground, edits = (sum_of(taken, crate, kind) for kind in KINDS)
     count = sum(1 for name, kind, _ in taken if name == crate and kind == EDIT)
     return ["`%s`" % crate, minutes(proof), minutes(tests), minutes(ground), "%s (%d)" % (minutes(edits), count) if count else "",
             minutes(proof + tests + ground + edits)]
 
 
-def part_of(taken):
+def part_of(taken: Mapping[Step, float]) -> str:
     """What docs/GATE.md says of a record."""
     sums = {kind: sum(seconds for (_, one, _), seconds in taken.items() if one == kind) for kind in KINDS}
     edits = [seconds for (_, kind, _), seconds in taken.items() if kind == EDIT]

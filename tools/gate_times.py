@@ -10,15 +10,19 @@ read off the prover's processes once a second, so they are good to a second or t
 
 --page writes the table of docs/GATE.md from the record of the last whole run, or from the given ones where a run was made in pieces.
 """
+
+from __future__ import annotations
+
 import collections
 import os
 import subprocess
 import sys
 import time
+from collections.abc import Mapping
 
-from gate_record import DEAR_EDIT, EDIT, GROUND, PROOF, TESTS, lacking, part_of, taken_in
+from gate_record import DEAR_EDIT, EDIT, GROUND, PROOF, TESTS, Step, lacking, part_of, taken_in
 from pages import put_part
-from processes import below
+from processes import Process, below
 from programs import TOP
 from telling import give_up
 
@@ -27,14 +31,15 @@ LIST = os.path.join(TOP, "build", "gate_times.txt")
 WHOLE = os.path.join(TOP, "build", "gate_times_whole.txt")
 
 
-def text_of(path):
+def text_of(path: str) -> str:
     with open(path, encoding="utf-8", errors="replace") as file:
         return file.read()
 
 
-def edited(edit, crate):
+def edited(edit: str, crate: str) -> dict[str, str]:
     """The files that an edit changes, by their path in the crate, as they are with it."""
-    path, old, texts = "", None, {}
+    path, old = "", None
+    texts: dict[str, str] = {}
     for line in text_of(edit).split("\n"):
         if line.startswith("file: "):
             path = line[6:].strip()
@@ -49,10 +54,11 @@ def edited(edit, crate):
 class Edits:
     """The must-fail edits of the crates, by the texts that they make."""
 
-    def __init__(self):
-        self.of, self.names = {}, {}
+    def __init__(self) -> None:
+        self.of: dict[str, list[tuple[str, dict[str, str]]]] = {}
+        self.names: dict[int, str | None] = {}
 
-    def made_by(self, name):
+    def made_by(self, name: str) -> list[tuple[str, dict[str, str]]]:
         if name not in self.of:
             crate = os.path.join(TOP, "crates", name)
             folder = os.path.join(crate, "must-fail")
@@ -60,7 +66,7 @@ class Edits:
             self.of[name] = [(file[:-5], edited(os.path.join(folder, file), crate)) for file in edits]
         return self.of[name]
 
-    def name(self, number, crate, folder):
+    def name(self, number: int, crate: str, folder: str) -> str | None:
         """Which edit of a crate a process tries in a folder, which is a copy of the crate with it; none where nothing is changed."""
         if number not in self.names:
             try:
@@ -71,7 +77,7 @@ class Edits:
         return self.names[number]
 
 
-def step_of(process, edits):
+def step_of(process: Process, edits: Edits) -> Step | None:
     """The crate, the kind of step and the edit's name that a process of the prover works at, or None."""
     words = process.words
     if os.path.basename(words[0]) != "rattle" or "--crate-name" not in words:
@@ -83,9 +89,10 @@ def step_of(process, edits):
     return crate, TESTS if "--test" in words else PROOF, ""
 
 
-def watched(words):
+def watched(words: list[str]) -> tuple[int, dict[Step, float]]:
     """Runs a command. Returns its status, and of each step the seconds of each of its processes."""
-    running, seconds, edits = subprocess.Popen(words), collections.defaultdict(dict), Edits()
+    seconds: dict[Step, dict[int, float]] = collections.defaultdict(dict)
+    running, edits = subprocess.Popen(words), Edits()
     while running.poll() is None:
         for process in below(running.pid):
             step = step_of(process, edits)
@@ -95,30 +102,30 @@ def watched(words):
     return running.returncode, {step: sum(numbers.values()) for step, numbers in seconds.items()}
 
 
-def line_of(step, seconds):
+def line_of(step: Step, seconds: float) -> str:
     crate, kind, name = step
     return "times: %5d s  %s: %s" % (seconds, crate, kind + (" " + name if name else ""))
 
 
-def report(taken, clock):
+def report(taken: Mapping[Step, float], clock: float) -> tuple[list[str], list[str]]:
     """The lines that are said, and all lines."""
-    kinds = collections.Counter()
+    kinds: dict[str, float] = collections.defaultdict(float)
     for (_, kind, _), seconds in taken.items():
         kinds[kind] += seconds
-    whole = "times: %d s on the clock; processor time of the prover %s" % (clock, ", ".join("%s %d s" % pair for pair in kinds.most_common()) or "none")
+    whole = "times: %d s on the clock; processor time of the prover %s" % (clock, ", ".join("%s %d s" % pair for pair in sorted(kinds.items(), key=lambda pair: -pair[1])) or "none")
     steps = sorted(taken.items(), key=lambda pair: -pair[1])
     dear = [line_of(*pair) + ", more than the %d s of an edit" % DEAR_EDIT for pair in steps if pair[0][1] == EDIT and pair[1] > DEAR_EDIT]
     every = [line_of(*pair) for pair in steps]
     return [whole] + every[:MOST] + dear, [whole] + every
 
 
-def keep(path, lines):
+def keep(path: str, lines: list[str]) -> None:
     os.makedirs(os.path.dirname(path), exist_ok=True)
     with open(path, "w") as file:
         file.write("\n".join(lines) + "\n")
 
 
-def write_page(records):
+def write_page(records: list[str]) -> int:
     """Writes docs/GATE.md's table from records that are the whole gate together."""
     missing = [path for path in records if not os.path.isfile(path)]
     if missing:
@@ -131,7 +138,7 @@ def write_page(records):
     return 0
 
 
-def main():
+def main() -> int:
     if sys.argv[1:2] == ["--page"]:
         return write_page(sys.argv[2:] or [WHOLE])
     if len(sys.argv) < 2 or sys.argv[1] in ("-h", "--help"):

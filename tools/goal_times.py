@@ -11,36 +11,43 @@ lists the goals at which one of these saves S seconds (0.35, or what --gain says
 as the crate's own check. --test takes the crate's tests too. --write writes the answers behind those that are there: check the crate
 then, and its edits, since an edit that renames a goal may be refused only for an answer's name, which says nothing of it.
 """
+
+from __future__ import annotations
+
 import os
 import re
 import shutil
 import subprocess
 import tempfile
 import time
+from collections.abc import Iterator, Mapping
 
 from checking import checked, folder_of, modules, seconds
 from telling import Words, give_up
 
+# A function's path, a goal and a tactic.
+Answer = tuple[str, str, str]
 TACTICS = ("search rules", "grind (arith, common_steps)", "grind (arith, elements)")
 SETS = "use Rattle.std.proofs.lemmas.Grind.{common_steps, elements}\n"
 MARK = "use Rattle.std.proofs.Common.{ℕ}\npub mark : ℕ → ℕ\nmark n = n\n"
 
 
-def copied(crate, to):
+def copied(crate: str, to: str) -> str:
     """A copy of a crate's folder without what was made there."""
     shutil.copytree(folder_of(crate), to, ignore=shutil.ignore_patterns("out"))
     return to
 
 
-def kept(seed, to):
+def kept(seed: str, to: str) -> str:
     """A copy of what a check left, by links."""
     subprocess.run(["cp", "-al", seed, to], check=True)
     return to
 
 
-def offered(told):
+def offered(told: str) -> dict[str, list[str]]:
     """The lines that the prover offers for each function's file of answers, by the function's path."""
-    lines, path = {}, None
+    lines: dict[str, list[str]] = {}
+    path = None
     for line in told.split("\n"):
         found = re.match(r"help: (?:write|add these lines to) \./proofs/(\S+)/Answers\.antt", line)
         if found:
@@ -53,7 +60,7 @@ def offered(told):
     return lines
 
 
-def all_goals(crate, seed, room, tests):
+def all_goals(crate: str, seed: str, room: str, tests: bool) -> dict[str, list[str]]:
     """What the prover offers for each function where it tries no tactic."""
     copy = copied(crate, os.path.join(room, "none"))
     for at, _, names in os.walk(os.path.join(copy, "src")):
@@ -69,10 +76,12 @@ def all_goals(crate, seed, room, tests):
 class Trial:
     """Modules that try the goals of functions, each by each tactic, with a mark behind each."""
 
-    def __init__(self, copy):
-        self.copy, self.tries, self.goals = copy, [], {}
+    def __init__(self, copy: str) -> None:
+        self.copy = copy
+        self.tries: list[tuple[str, str, str, str]] = []
+        self.goals: dict[tuple[str, str], tuple[str, str]] = {}
 
-    def add(self, path, lines):
+    def add(self, path: str, lines: list[str]) -> None:
         """Adds the goals of a function."""
         head = "".join(line + "\n" for line in lines if line.startswith("use "))
         need = SETS if "arith" in re.findall(r"[^\s{},]+", head) else "use Rattle.std.proofs.Common.{arith}\n" + SETS
@@ -90,12 +99,12 @@ class Trial:
                 self.tries.append((path, goal, tactic, name))
         self.open_file(below + ".antt", names, head, goals)
 
-    def write(self, below, name, text):
+    def write(self, below: str, name: str, text: str) -> str:
         with open(os.path.join(below, name + ".antt"), "w") as file:
             file.write(text)
         return name
 
-    def open_file(self, path, names, head, goals):
+    def open_file(self, path: str, names: list[str], head: str, goals: list[tuple[str, str, str]]) -> None:
         """Declares the modules in the function's answers, with the goals open."""
         own = ""
         if os.path.exists(path):
@@ -105,7 +114,7 @@ class Trial:
         with open(path, "w") as file:
             file.write("".join("pub mod %s\n" % name for name in names) + (own or head) + holes)
 
-    def run(self, crate, folder, tests):
+    def run(self, crate: str, folder: str, tests: bool) -> dict[Answer, tuple[float, bool]]:
         """The seconds of each trial, and whether it proves its goal: by the function's path, the goal and the tactic."""
         begun = time.time()
         told = checked(crate, folder, tests, at=self.copy)[1]
@@ -115,10 +124,10 @@ class Trial:
                 for path, goal, tactic, name in self.tries}
 
 
-def savings(found):
+def savings(found: Mapping[Answer, tuple[float, bool]]) -> Iterator[tuple[float, str, str, str]]:
     """What the best answer of each goal saves: seconds, the function's path, the goal and the tactic."""
     for path, goal in dict.fromkeys(key[:2] for key in found):
-        now, best = 0, None
+        now, best = 0.0, None
         for tactic in TACTICS:
             taken, proves = found[path, goal, tactic]
             now += 0 if best else taken
@@ -128,7 +137,7 @@ def savings(found):
             yield now - best[0], path, goal, best[1]
 
 
-def brought(text, module, words):
+def brought(text: str, module: str, words: list[str]) -> str:
     """A file of answers with what its `use` lines must bring from a module of the standard library."""
     have = set(re.findall(r"[^\s{},]+", "\n".join(line for line in text.split("\n") if line.startswith("use "))))
     lacks = [word for word in words if word not in have]
@@ -142,7 +151,7 @@ def brought(text, module, words):
     return text[:at] + line + ", ".join(lacks) + "}\n" + text[at:]
 
 
-def write(crate, path, goal, tactic, kind, arguments):
+def write(crate: str, path: str, goal: str, tactic: str, kind: str, arguments: str) -> None:
     """Writes an answer behind those of its function."""
     file = os.path.join(folder_of(crate), "proofs", path, "Answers.antt")
     os.makedirs(os.path.dirname(file), exist_ok=True)
@@ -156,7 +165,7 @@ def write(crate, path, goal, tactic, kind, arguments):
         opened.write("%s\n\npub %s : %s\n%s%s = %s\n" % (text.rstrip("\n"), goal, kind, goal, arguments, tactic))
 
 
-def main():
+def main() -> int:
     words = Words(__doc__)
     words.add_argument("crate")
     words.add_argument("--test", action="store_true")

@@ -1,6 +1,10 @@
 """What is told of a refusal: what it means here, what helps, and, where that is without doubt, the line that was meant. The page and the
 terminal tell the same."""
+
+from __future__ import annotations
+
 import re
+from collections.abc import Iterable, Sequence
 
 from faults import told_of_fault
 from known import MODULE, Known, rule_of
@@ -31,30 +35,30 @@ HELPS = {"overflow": "a condition that ends the growth helps, as : x < 1000", "d
 class Hint:
     """What is told, and the line that was meant, or None."""
 
-    def __init__(self, told, meant=None):
+    def __init__(self, told: str, meant: str | None = None) -> None:
         self.told, self.meant = told, meant
 
 
-def of_limit(reply, limit, place):
+def of_limit(reply: str, limit: int, place: str) -> str:
     """What is told of levels past the limit."""
-    level = re.fullmatch(r"refused limit level (\d+)", reply).group(1)
+    level = "".join(re.findall(r"^refused limit level (\d+)$", reply))
     told = "levels 0 to {} have together more than {:,} symbols, which is the limit".format(level, limit)
     if limit >= MOST_LIMIT:
         return told + ", and the greatest one: a lower depth, or less that each rule puts, helps"
     return told + "; " + RAISED_BY[place].format(MOST_LIMIT)
 
 
-def word_at(line, column):
+def word_at(line: bytes, column: int) -> str:
     found = re.match(rb"\w+|.", line[column - 1:])
     return found.group().decode("latin-1") if found else ""
 
 
-def with_word(line, column, word):
+def with_word(line: bytes, column: int, word: str) -> str:
     """The line with another word at a column."""
     return text_of(line[:column - 1]) + re.sub(r"^\w+", word, text_of(line[column - 1:]))
 
 
-def of_name(line, column, known):
+def of_name(line: bytes, column: int, known: Known) -> Hint:
     name, rule = word_at(line, column), rule_of(text_of(line))
     found = re.match(r"[A-Za-z](?:_[A-Za-z0-9]{1,6})?", text_of(line[column - 1:]))
     name = found.group() if found else name
@@ -65,7 +69,7 @@ def of_name(line, column, known):
     return Hint("`%s` is no parameter of this rule: its pattern has %s" % (name, quoted(formals, "and")))
 
 
-def of_label(line, column, known):
+def of_label(line: bytes, column: int, known: Known) -> Hint:
     label, word = word_at(line, column), text_of(line).split()[0]
     if word == "drop":
         near = nearest(label, list(known.rules))
@@ -76,7 +80,7 @@ def of_label(line, column, known):
     return Hint("the label `%s` stands %s already: take another label, or `drop %s` before" % (label, where, label))
 
 
-def of_table(line, column, known):
+def of_table(line: bytes, column: int, known: Known) -> Hint:
     table, word = word_at(line, column), text_of(line).split()[0]
     if word == "drop":
         return Hint("the rule `%s` is the last one of its table, which `schedule` names or which has a list of its own: change that before" % table)
@@ -86,27 +90,27 @@ def of_table(line, column, known):
     return Hint(told + ("; did you mean `%s`?" % near if near else ""), with_word(line, column, near) if near else None)
 
 
-def of_mixed(line, column, known):
+def of_mixed(line: bytes, column: int, known: Known) -> Hint:
     rule = rule_of(text_of(line))
-    others = [other.label for other in known.rules.values() if rule and other.group() == rule.group() and bool(other.weight) != bool(rule.weight)]
+    labels = [other.label for other in known.rules.values() if rule and other.group() == rule.group() and bool(other.weight) != bool(rule.weight)]
     name = rule.name if rule else "this module"
-    others = quoted(others[:5], "and") if others else "another one"
+    others = quoted(labels[:5], "and") if labels else "another one"
     has = "this one has a weight, unlike %s" if rule and rule.weight else "this one has no weight, unlike %s"
     return Hint("the rules for %s have all a weight, as @ 1, or none: %s" % (name, has % others))
 
 
-def of_level(line, column, known):
+def of_level(line: bytes, column: int, known: Known) -> Hint:
     return Hint("there are the levels 0 to %d: `depth %s` makes more" % (known.depth(), word_at(line, column)))
 
 
-def of_version(line, column, known):
+def of_version(line: bytes, column: int, known: Known) -> Hint:
     word = text_of(line).split()[0]
     if word != "version":
         return Hint("`%s` belongs to version 2 of the language: put `version 2` at the head of the script" % word)
     return Hint("there are versions 1 and 2, and a script doesn't go back to a lower one: put one `version` line at its head")
 
 
-def of_many(line, column, known):
+def of_many(line: bytes, column: int, known: Known) -> Hint:
     """Which limit of the language is passed at a column."""
     text = text_of(line)
     word = text.split()[0]
@@ -138,20 +142,21 @@ AT_COLUMN = {"name": of_name, "label": of_label, "table": of_table, "mixed": of_
 COLUMN = re.compile(r"refused (%s) (\d+)" % "|".join(AT_COLUMN))
 
 
-def of_fault(line, reply, taken, words):
+def of_fault(line: bytes, reply: str, taken: list[bytes], words: Sequence[str] | None) -> Hint:
     """Which module, rule and values had a fault, and what helps."""
     kind = reply.split()[2]
-    found = re.fullmatch(r"refused fault \S+ (?:level (\d+) module (\d+)|image (\d+))", reply)
+    found = re.findall(r"\d+", reply)
     told = told_of_fault(words, taken, line, reply) if words else None
     if told is None:
-        where = "level %s, module %s" % found.group(1, 2) if found.group(1) else "module %s of the last level" % found.group(3)
+        where = "level %s, module %s" % (found[0], found[1]) if len(found) == 2 else "module %s of the last level" % found[0]
         told = "%s: %s" % (where, FAULTS[kind])
     elif "in the rule" not in told:
         told += ": " + FAULTS[kind]
     return Hint("%s; %s" % (told, HELPS[kind]))
 
 
-def hint(line, reply, taken=(), limit=LIMIT, place="terminal", words=None):
+def hint(line: bytes, reply: str, taken: Iterable[bytes] = (), limit: int = LIMIT, place: str = "terminal",
+         words: Sequence[str] | None = None) -> Hint:
     """What is told of a refusal of a line (its bytes). `taken` are the edits that were taken before, `place` is where the limit is set, and
     `words` begin a program that is asked of faults."""
     known = Known(taken)
@@ -169,6 +174,6 @@ def hint(line, reply, taken=(), limit=LIMIT, place="terminal", words=None):
     return Hint(next((told.format(*numbers or [""]) for words, told in PLAIN.items() if re.match("refused %s( |$)" % words, reply)), ""))
 
 
-def as_told(found):
+def as_told(found: Hint) -> str:
     """The words of a hint, with the line that was meant."""
     return found.told + (": " + found.meant if found.meant else "")

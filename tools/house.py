@@ -12,8 +12,10 @@ Lines are counted as they stand, without the tests' crates and, once more, witho
 --long lists the long clauses, --twice the names that are defined twice, and --once those that are used in one place at most, all of them, with
 where they stand.
 """
+
+from __future__ import annotations
+
 import sys
-from typing import List
 
 from bounds import Finding, all_findings, compared, used_once
 from sources import clauses_in, crates, defined, lines_of, texts
@@ -28,17 +30,17 @@ def is_test(crate: str) -> bool:
     return crate.startswith("lsys_tests") or crate == "lsys_flat"
 
 
-def shares(names: List[str]) -> str:
+def shares(names: list[str]) -> str:
     """Of these crates: lines of source, definitions and proofs, and the last two by the first."""
     source, specs, proofs = (sum(counts) for counts in zip(*map(lines_of, names)))
     return "%6d source, %6d definitions (%.2f), %6d proofs (%.2f)" % (source, specs, specs / source, proofs, proofs / source)
 
 
-def count_of_clauses(names: List[str]) -> int:
+def count_of_clauses(names: list[str]) -> int:
     return sum(1 for name in names for path, text in texts(name, "src", ".rt") for _ in clauses_in(path, text))
 
 
-def tell_figures(findings: List[Finding]) -> None:
+def tell_figures(findings: list[Finding]) -> None:
     """How many crates, lines, edits, clauses and names there are."""
     names = crates()
     program = [name for name in names if not is_test(name)]
@@ -54,7 +56,7 @@ def tell_figures(findings: List[Finding]) -> None:
         print("  %-20s %4d past the bound, the greatest figure %d" % (bound, len(found), max(finding.figure for finding in found)))
 
 
-def tell_lists(findings: List[Finding], options: List[str]) -> None:
+def tell_lists(findings: list[Finding], options: list[str]) -> None:
     """The lists that are asked for."""
     for option, bounds in (("--long", ["columns"]), ("--twice", ["twice in specs", "twice in src"])):
         for finding in sorted(findings, key=lambda found: -found.figure) if option in options else []:

@@ -2,8 +2,10 @@
 
 An entry lets its finding through as long as it goes no further than the figure. An entry that nothing needs any more fails, and goes.
 """
+
+from __future__ import annotations
+
 from dataclasses import dataclass
-from typing import Dict, Tuple
 
 
 @dataclass(frozen=True)
@@ -18,7 +20,7 @@ class Known:
     # Whether it is being mended, so that the finding may be gone already.
     may_go: bool = False
 
-    def key(self) -> Tuple[str, str, str]:
+    def key(self) -> tuple[str, str, str]:
         return self.bound, self.file, self.name
 
 
@@ -34,7 +36,7 @@ OWN_WORD = "a plain word that each of these crates has for a thing of its own"
 SAME_WORD = "two files define it apart: it goes where one of them takes another name, or where they share it"
 FEW_USES = "a fact that one clause names, or a step of one proof; the figure may fall and not rise"
 
-KNOWN: Tuple[Known, ...] = (
+KNOWN: tuple[Known, ...] = (
     Known("columns", "crates/lsys_forest/src/forest.rt", "sort", 114, SOON, may_go=True),
     Known("columns", "crates/lsys_forest/src/pairs.rt", "paired", 117, SOON, may_go=True),
     Known("columns", "crates/lsys_forest/src/stock.rt", "here", 102, SOON, may_go=True),
@@ -182,7 +184,7 @@ KNOWN: Tuple[Known, ...] = (
 )
 
 # The wrong bodies that a must-fail edit of the crate has to be, whatever else is one: its name, and what it does.
-NAMED_EDITS: Dict[str, Dict[str, str]] = {
+NAMED_EDITS: dict[str, dict[str, str]] = {
     "lsys_match": {
         "draw_by_place": "a draw is keyed by the module's place in its level",
     },

@@ -6,9 +6,14 @@ The definitions have the machine that reads the tokens of a line: crates/lsys_sy
 ExpressionMachine.antt. Their clauses are written as lists, which tools/machine.py works out. With --check nothing is written, and the
 status says whether what is kept is what would be written.
 """
+
+from __future__ import annotations
+
 import json
 import os
 import re
+from collections.abc import Iterator, Sequence
+from typing import Any
 
 from programs import TOP
 from telling import Words, give_up
@@ -24,7 +29,7 @@ BUILT_IN = {"nat_lt", "nat_le", "bytes_eq", "codes", "option_map"}
 WORDS = re.compile(r"\s*(\"[^\"]*\"|[A-Za-z_]\w*(?:\.[A-Za-z_0-9]\w*)*|\d+|\[\]|[^\s])")
 
 
-def items_of(name):
+def items_of(name: str) -> list[list[str]]:
     """The parts of a file of definitions, each from its first line to its last, without comments."""
     with open(os.path.join(SPECS, name + ".antt"), encoding="utf-8") as file:
         lines = [re.sub(r"(^|\s)--.*", "", line.rstrip("\n")) for line in file]
@@ -37,7 +42,7 @@ def items_of(name):
     return items
 
 
-def constructors():
+def constructors() -> set[str]:
     """The names of the constructors of all trees that the machine has to do with."""
     found = set(PRELUDE)
     for name in MACHINES + TREES:
@@ -50,20 +55,20 @@ def constructors():
 class Reading:
     """Reads an expression or a pattern: variables and names as [name], calls as [function, argument ..]."""
 
-    def __init__(self, text):
+    def __init__(self, text: str) -> None:
         self.words, self.at = WORDS.findall(text), 0
 
-    def peek(self):
+    def peek(self) -> str:
         return self.words[self.at] if self.at < len(self.words) else ""
 
-    def take(self, wanted=None):
+    def take(self, wanted: str | None = None) -> str:
         word = self.peek()
         if wanted and word != wanted:
             raise ValueError("%s stands where %s should: %s" % (word, wanted, " ".join(self.words)))
         self.at += 1
         return word
 
-    def expression(self):
+    def expression(self) -> Any:
         if self.peek() == "λ":
             self.take()
             name = self.take()
@@ -82,13 +87,13 @@ class Reading:
             return ["∷", left, self.expression()]
         return left
 
-    def sum(self):
+    def sum(self) -> Any:
         left = self.call()
         while self.peek() in ("+", "-", "^"):
             left = [self.take(), left, self.call()]
         return left
 
-    def call(self):
+    def call(self) -> Any:
         parts = [self.atom()]
         while self.peek() and (re.match(r"[\w\"(\[]", self.peek())) and self.peek() not in ("then", "else"):
             parts.append(self.atom())
@@ -96,7 +101,7 @@ class Reading:
             return parts[0]
         return parts[0] + parts[1:] if isinstance(parts[0], list) and len(parts[0]) == 1 else ["apply"] + parts
 
-    def atom(self):
+    def atom(self) -> Any:
         word = self.take()
         if word == "(":
             inner = self.expression()
@@ -108,7 +113,7 @@ class Reading:
             return {"text": word[1:-1]}
         return int(word) if word.isdigit() else [word]
 
-    def record(self):
+    def record(self) -> dict[str, Any]:
         self.take("{")
         fields = {}
         while self.peek() != "}":
@@ -121,7 +126,7 @@ class Reading:
         return {"record": fields}
 
 
-def whole(text):
+def whole(text: str) -> Any:
     reading = Reading(text)
     found = reading.expression()
     if reading.peek():
@@ -129,7 +134,7 @@ def whole(text):
     return found
 
 
-def without_module(tree):
+def without_module(tree: Any) -> Any:
     """Names without the module that they come from; `b.head` is a part of a record."""
     if isinstance(tree, dict):
         return {key: (value if key in ("by", "text") else {name: without_module(part) for name, part in value.items()} if key == "record" else without_module(value))
@@ -145,9 +150,9 @@ def without_module(tree):
     return [head] + [without_module(part) for part in tree[1:]]
 
 
-def clauses_of(names):
+def clauses_of(names: Sequence[str]) -> dict[str, list[Any]]:
     """The clauses of all functions of some files: for each its patterns and what it is. A clause is `name pattern .. = expression`."""
-    found = {}
+    found: dict[str, list[Any]] = {}
     for name in names:
         for item in items_of(name):
             text = " ".join(item)
@@ -162,7 +167,7 @@ def clauses_of(names):
     return found
 
 
-def names_in(tree):
+def names_in(tree: Any) -> Iterator[str]:
     """All names that an expression holds."""
     if isinstance(tree, dict):
         for key, value in tree.items():
@@ -179,7 +184,7 @@ def names_in(tree):
                 yield from names_in(part)
 
 
-def machine():
+def machine() -> dict[str, Any]:
     """What is kept: the functions that reading a line needs, and the constructors."""
     functions, made = clauses_of(MACHINES), constructors()
     needed, left = {}, [name for name in WANTED if name in functions]
@@ -197,16 +202,16 @@ def machine():
     return {"functions": {name: needed[name] for name in sorted(needed)}, "constructors": sorted(made & used)}
 
 
-def text_of(kept):
+def text_of(kept: dict[str, Any]) -> str:
     """The text of the file, a function a line."""
-    def compact(value):
+    def compact(value: object) -> str:
         return json.dumps(value, ensure_ascii=False, separators=(",", ":"))
 
     rows = ",\n".join("%s:%s" % (compact(name), compact(clauses)) for name, clauses in kept["functions"].items())
     return "{\"functions\":{\n%s\n},\n\"constructors\":%s}\n" % (rows, compact(kept["constructors"]))
 
 
-def main():
+def main() -> int:
     parser = Words(__doc__)
     parser.add_argument("--check", action="store_true")
     options = parser.parse_args()

@@ -5,7 +5,12 @@ asked for the same modules in the same order: the string behind that step has th
 copies, and the homomorphism as one more table. What each rule puts is read from `show`, and each level that follows is compared with the
 program's own string; where one differs, or where there is no room for the copies, that is said and nothing is guessed.
 """
+
+from __future__ import annotations
+
 import re
+from collections.abc import Sequence
+from typing import Any
 
 from session import Ended, Program
 
@@ -26,12 +31,12 @@ class Untold(Exception):
 class Rule:
     """A rule as `show` has it: its table, or None for one of the homomorphism, its label, what stands before the arrow, and the names that it puts."""
 
-    def __init__(self, found, line):
+    def __init__(self, found: re.Match[str], line: str) -> None:
         self.table, self.label, self.front, self.line = found.group(2), found.group(3), found.group(4), line
         self.names = [name for name, _ in symbols(found.group(5).strip())]
 
 
-def symbols(text):
+def symbols(text: str) -> list[tuple[str, str]]:
     """The symbols of a string, each its name and its parameters in parentheses, which may be expressions."""
     found, place = [], 0
     name = re.compile(NAME)
@@ -53,7 +58,7 @@ def symbols(text):
     return found
 
 
-def kept(names):
+def kept(names: list[str]) -> list[int]:
     """The places of the symbols that no cut takes away: a cut takes itself and what follows, up to the `]` that ends its branch."""
     places, depth, cut = [], 0, None
     for place, name in enumerate(names):
@@ -72,32 +77,37 @@ class Level:
     """The symbols of a level: `names`, `values`, `parents` (places in the level before) and `numbers` (which child of its parent each is),
     and, once they are known, `rules` and `shown`: the rule that rewrites each, and the one by which it is drawn."""
 
-    def __init__(self, text, parents, numbers, names):
+    def __init__(self, text: str, parents: list[int | None], numbers: list[int | str], names: list[str]) -> None:
         found = SYMBOL.findall(text)
         self.names, self.values = [name for name, _ in found], [value for _, value in found]
         if self.names != names:
             raise Untold("the rules that `show` tells don't give this level, so nothing is told of it")
-        self.parents, self.numbers, self.rules, self.drawn, self.begins = parents, numbers, None, None, None
+        self.parents, self.numbers, self.is_drawn = parents, numbers, False
+        self.rules: list[int | None] = []
+        self.drawn: list[int | None] = []
+        self.begins: list[int] = []
 
-    def text(self, place):
+    def text(self, place: int) -> str:
         return self.names[place] + self.values[place]
 
 
 class Lineage:
     """All that is known of the levels of one system, worked out as far as it is asked for."""
 
-    def __init__(self, words, shown):
+    def __init__(self, words: Sequence[str], shown: Sequence[str]) -> None:
         self.shown = [line for line in shown if not line.startswith("depth ")]
         self.program = Program([words[0], "--limit", str(MOST_LIMIT)])
-        self.rules, self.lists, self.schedule, self.axiom, self.by_names = [], {}, ["main"], "", False
+        self.rules: list[Rule] = []
+        self.lists: dict[str, str] = {}
+        self.schedule, self.axiom, self.by_names = ["main"], "", False
         for line in self.shown:
             self.read(line)
         self.mark = self.free("Z_%d")
-        self.levels = []
+        self.levels: list[Level] = []
         self.send(self.shown)
         self.put_copies()
 
-    def read(self, line):
+    def read(self, line: str) -> None:
         found, word = RULE.match(line), line.partition(" ")[0]
         own = re.match(r"(ignoring|consider) (\w+):", line)
         if found:
@@ -111,26 +121,27 @@ class Lineage:
         elif word == "lineage":
             self.by_names = line == "lineage names"
 
-    def free(self, form):
+    def free(self, form: str) -> str:
         """A name of this form that stands nowhere in the system."""
         text = "\n".join(self.shown)
         return next(form % number for number in range(1000) if form % number not in text)
 
-    def send(self, lines):
+    def send(self, lines: Sequence[str]) -> None:
         for line in lines:
             reply = self.ask(line)
             if not reply.startswith("ok "):
                 raise Untold("the program answers `%s` to `%s`, so the lineage can't be told" % (reply, line[:60]))
 
-    def ask(self, line):
+    def ask(self, line: str) -> str:
         try:
             return self.program.ask(line.encode("latin-1")).rstrip("\n")
         except Ended:
             raise Untold("the program that was asked for the lineage has ended") from None
 
-    def put_copies(self):
+    def put_copies(self) -> None:
         """A copy of each table, and one of the homomorphism, whose rules put their number."""
-        self.copies, stem, label = {}, self.free("mark%d"), self.free("r%dm")
+        stem, label = self.free("mark%d"), self.free("r%dm")
+        self.copies: dict[str | None, str] = {}
         for number, rule in enumerate(self.rules):
             copy = self.copies.setdefault(rule.table, "%st%d" % (stem, len(self.copies)))
             self.send(["production %s %sx%d: %s => %s(%d)" % (copy, label, number, rule.front, self.mark, number)])
@@ -138,7 +149,7 @@ class Lineage:
             if table in self.copies:
                 self.send([line.replace(" %s:" % table, " %s:" % self.copies[table], 1)])
 
-    def marks(self, level, table):
+    def marks(self, level: int, table: str | None) -> list[int | None]:
         """The number of the rule of this table for each symbol of a level, or None where none is taken."""
         if table not in self.copies:
             return [None] * len(self.levels[level].names)
@@ -149,23 +160,24 @@ class Lineage:
         found = SYMBOL.findall(self.ask("string %d" % (level + 1)))
         return [int(value[1:-1]) if name == self.mark else None for name, value in found]
 
-    def begin(self):
+    def begin(self) -> None:
         """Level 0, which is what no cut takes from the axiom."""
         names = [name for name, _ in symbols(self.axiom)]
         places, numbers = kept(names), self.numbers(names)
         self.levels.append(Level(self.ask("string 0"), [None] * len(places), [numbers[place] for place in places], [names[place] for place in places]))
 
-    def numbers(self, names):
+    def numbers(self, names: list[str]) -> list[int | str]:
         """Which child each of these is: its place, or its name and how many of its name stand before it."""
         if not self.by_names:
             return list(range(len(names)))
-        seen, told = {}, []
+        seen: dict[str, int] = {}
+        told: list[int | str] = []
         for name in names:
             told.append("%s%d" % (name, seen.get(name, 0)))
             seen[name] = seen.get(name, 0) + 1
         return told
 
-    def level(self, number):
+    def level(self, number: int) -> Level:
         """A level, with those before it and their rules."""
         if not self.levels:
             self.begin()
@@ -173,7 +185,7 @@ class Lineage:
             self.step()
         return self.levels[number]
 
-    def step(self):
+    def step(self) -> None:
         """The level behind the last one that is known."""
         last, number = self.levels[-1], len(self.levels) - 1
         last.rules = self.marks(number, self.schedule[number % len(self.schedule)])
@@ -189,11 +201,11 @@ class Lineage:
         text = self.ask("string %d" % (number + 1))
         self.levels.append(Level(text, [parents[place] for place in places], [numbers[place] for place in places], [names[place] for place in places]))
 
-    def drawn(self, number):
+    def drawn(self, number: int) -> Level:
         """The level with the first segment of each of its symbols, and behind the last one how many there are."""
         level = self.level(number)
-        if level.begins is None:
-            level.drawn, level.begins, count = self.marks(number, None), [], 0
+        if not level.is_drawn:
+            level.drawn, level.begins, level.is_drawn, count = self.marks(number, None), [], True, 0
             draws = [sum(name.startswith("F") for name in rule.names) for rule in self.rules]
             for name, rule in zip(level.names, level.drawn):
                 level.begins.append(count)
@@ -201,10 +213,10 @@ class Lineage:
             level.begins.append(count)
         return level
 
-    def close(self):
+    def close(self) -> None:
         self.program.close()
 
-    def module_of(self, number, segment, count, depth):
+    def module_of(self, number: int, segment: int, count: int, depth: int) -> dict[str, Any]:
         """What is told of the module of level `number` that drew a segment of that level's picture, which has `count`."""
         level = self.drawn(number)
         if level.begins[-1] != count:
@@ -216,7 +228,7 @@ class Lineage:
         # The last symbol that begins here draws the segment; those before it with the same begin draw nothing.
         return self.told(number, low, depth)
 
-    def told(self, number, place, depth):
+    def told(self, number: int, place: int, depth: int) -> dict[str, Any]:
         level = self.levels[number]
         shown = level.drawn[place]
         told = {"level": number, "module": level.text(place), "number": sum(name not in "[]" for name in level.names[:place + 1]),
@@ -226,24 +238,25 @@ class Lineage:
             told.update(self.children(number, place))
         return told
 
-    def came(self, number, place):
+    def came(self, number: int, place: int) -> str:
         """The rule that put a module, as a line of the script, or nothing where it is of the axiom or no rule was taken."""
         if number == 0:
             return ""
-        rule = self.levels[number - 1].rules[self.levels[number].parents[place]]
+        parent = self.levels[number].parents[place]
+        rule = self.levels[number - 1].rules[parent] if parent is not None else None
         return self.rules[rule].line if rule is not None else ""
 
-    def ancestors(self, number, place):
+    def ancestors(self, number: int, place: int | None) -> list[list[Any]]:
         """The way from the axiom's symbol down to a module: of each level the module, which child it is, and the label of the rule that put it."""
         way = []
-        while number >= 0:
+        while place is not None:
             level = self.levels[number]
-            came = self.came(number, place)
-            way.append([level.text(place), level.numbers[place], RULE.match(came).group(3) if came else ""])
+            came = RULE.match(self.came(number, place))
+            way.append([level.text(place), level.numbers[place], came.group(3) if came else ""])
             number, place = number - 1, level.parents[place]
         return way[::-1][-MOST_TOLD:]
 
-    def children(self, number, place):
+    def children(self, number: int, place: int) -> dict[str, Any]:
         """The modules of the next level that this one becomes, with the segments that they draw there."""
         following = self.drawn(number + 1)
         rule = self.levels[number].rules[place]

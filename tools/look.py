@@ -10,11 +10,15 @@ cookie. It is opened in a browser where there is one, but for --no-browser. The 
 (libjs-codemirror), and else, or with --plain, a plain one. Export gives the files that tools/export writes, turned as the picture is.
 N symbols, 1 to 1,000,000, may all levels have together. Ctrl-C ends it.
 """
+
+from __future__ import annotations
+
 import os
 import shutil
 import signal
 import subprocess
 import threading
+from typing import Any
 
 from desk import LONGEST_SCRIPT, Desk, Gallery, as_bytes
 from film import script_in, script_of_link
@@ -25,7 +29,7 @@ from session import Session
 from telling import Words, give_up, port, say
 from watching import Watching
 
-def server_at(number):
+def server_at(number: int) -> Server:
     """A server at a port of this machine alone."""
     try:
         return Server(("127.0.0.1", number), Answer)
@@ -33,7 +37,7 @@ def server_at(number):
         return give_up("port %d can't be had (%s): take another one by --port N, or none for a free one" % (number, error.strerror))
 
 
-def words_of_tool():
+def words_of_tool() -> Any:
     parser = Words(__doc__)
     parser.add_argument("script", nargs="?")
     parser.add_argument("--port", type=port, default=0)
@@ -48,7 +52,7 @@ def words_of_tool():
     return options
 
 
-def held_by(named):
+def held_by(named: str) -> tuple[str, str] | None:
     """The script that a link or an HTML file of the page holds, with a name for it, or None where a script is named."""
     if "#script=" in named:
         script = script_of_link(named)
@@ -62,7 +66,7 @@ def held_by(named):
     return os.path.splitext(os.path.basename(named))[0] + ".lsys", script
 
 
-def look_at(script):
+def look_at(script: str) -> None:
     """Ends this process where a script can't be read, or where there is none and none can be made."""
     try:
         open(script, "rb").close()
@@ -79,14 +83,14 @@ def look_at(script):
         give_up("%s has more than 16,777,216 bytes, which is the most that a script may have" % script, 2)
 
 
-def open_browser(address):
+def open_browser(address: str) -> None:
     """Opens the page where there is a browser with a screen."""
     opener = shutil.which("xdg-open")
     if opener and (os.environ.get("DISPLAY") or os.environ.get("WAYLAND_DISPLAY")):
         subprocess.Popen([opener, address], stdin=subprocess.DEVNULL, stdout=subprocess.DEVNULL, stderr=subprocess.DEVNULL, start_new_session=True)
 
 
-def main():
+def main() -> int:
     options = words_of_tool()
     server = server_at(options.port)
     limit = ["--limit", options.limit] if options.limit else []
@@ -100,7 +104,7 @@ def main():
     Answer.watching = Watching(desk)
     ended = threading.Event()
 
-    def end(*_):
+    def end(*_: object) -> None:
         # A derivation that still runs is not waited for.
         ended.set()
         desk.stopping = True

@@ -3,10 +3,16 @@
 A value is a tuple of a constructor's name and its arguments, a number, a text, or a truth; a kind of token likewise, as ("Word", "depth"),
 ("Name", "F"), ("Number", 3) or ("Arrow",).
 """
+
+from __future__ import annotations
+
 import json
 import os
 import re
+from collections.abc import Callable, Sequence
+from typing import Any
 
+Kind = tuple[Any, ...]
 HERE = os.path.dirname(os.path.realpath(__file__))
 MARKS = {b"=>": "Arrow", b"==": "Equal", b"!=": "Unequal", b"<=": "AtMost", b">=": "AtLeast", b"(": "LeftParen", b")": "RightParen", b"[": "LeftBracket",
          b"]": "RightBracket", b",": "Comma", b":": "Colon", b"@": "At", b"+": "Plus", b"-": "Minus", b"*": "Times", b"/": "Slash", b"\\": "Backslash",
@@ -23,23 +29,23 @@ MOST_TOKENS = 400
 class Token:
     """A token: its kind, and the bytes of its line from `start` to `stop`."""
 
-    def __init__(self, kind, start, stop):
+    def __init__(self, kind: Kind, start: int, stop: int) -> None:
         self.kind, self.start, self.stop = kind, start, stop
 
 
-def mode_behind(mode, text, is_first):
+def mode_behind(mode: str, text: bytes, is_first: bool) -> str:
     """How letters are read behind a token: as words, as words until a colon, or as names."""
     if is_first:
         return "names" if text in NAMES_AT_ONCE else "until colon" if text in NAMES_BEHIND_COLON else "words"
     return "names" if mode == "until colon" and text == b":" else mode
 
 
-def token_at(line, place, mode):
+def token_at(line: bytes, place: int, mode: str) -> Token | None:
     """The token at a place that is no blank, or None."""
     digits = DIGITS.match(line, place)
     if digits:
-        text = digits.group().lstrip(b"0") or b"0"
-        value = int(text) if len(text) < 30 else NUMBER_BOUND
+        shown = digits.group().lstrip(b"0") or b"0"
+        value = int(shown) if len(shown) < 30 else NUMBER_BOUND
         return Token(("Number", value) if value < NUMBER_BOUND else ("BigNumber",), place, digits.end())
     letters = (NAME if mode == "names" else WORD).match(line, place)
     if letters:
@@ -50,9 +56,10 @@ def token_at(line, place, mode):
     return Token((MARKS[mark.group()],), place, mark.end()) if mark else None
 
 
-def tokens_of(line):
+def tokens_of(line: bytes) -> tuple[list[Token], int | None]:
     """A line's tokens, and the place of its first byte that is in none, or None."""
-    found, place, mode = [], 0, "words"
+    found: list[Token] = []
+    place, mode = 0, "words"
     while place < len(line):
         if line[place:place + 1] in (b" ", b"\t"):
             place += 1
@@ -69,13 +76,13 @@ def tokens_of(line):
 class Machine:
     """Works out the functions of the definitions."""
 
-    def __init__(self, kept):
+    def __init__(self, kept: dict[str, Any]) -> None:
         self.functions, self.constructors = kept["functions"], set(kept["constructors"])
-        self.built_in = {"nat_lt": (2, lambda a, b: a < b), "nat_le": (2, lambda a, b: a <= b), "bytes_eq": (2, lambda a, b: a == b), "codes": (1, lambda text: text),
+        self.built_in: dict[str, tuple[int, Callable[..., Any]]] = {"nat_lt": (2, lambda a, b: a < b), "nat_le": (2, lambda a, b: a <= b), "bytes_eq": (2, lambda a, b: a == b), "codes": (1, lambda text: text),
                          "option_map": (2, lambda f, o: o if o == ("None",) else ("Some", self.apply(f, [o[1]]))), "+": (2, lambda a, b: a + b),
                          "-": (2, lambda a, b: max(0, a - b)), "^": (2, lambda a, b: a ** b)}
 
-    def value(self, tree, known):
+    def value(self, tree: Any, known: dict[str, Any]) -> Any:
         if isinstance(tree, (int, str)):
             return tree
         if isinstance(tree, dict):
@@ -89,7 +96,7 @@ class Machine:
             return {"true": True, "false": False, "zero": 0}.get(head) if head in ("true", "false", "zero") else (head, *rest)
         return self.apply(self.value(head, known), rest)
 
-    def value_of_form(self, tree, known):
+    def value_of_form(self, tree: Any, known: dict[str, Any]) -> Any:
         if "text" in tree:
             return tree["text"]
         if "if" in tree:
@@ -103,7 +110,7 @@ class Machine:
             return found
         return ("by", tree, known)
 
-    def apply(self, function, arguments):
+    def apply(self, function: Any, arguments: Sequence[Any]) -> Any:
         """A function, or a constructor that still lacks arguments, with more of them."""
         if not isinstance(function, tuple):
             return function
@@ -119,14 +126,14 @@ class Machine:
         found = self.built_in[name][1](*given[:wanted]) if name in self.built_in else self.called(name, given[:wanted])
         return self.apply(found, given[wanted:]) if given[wanted:] else found
 
-    def called(self, name, given):
+    def called(self, name: str, given: Sequence[Any]) -> Any:
         for patterns, tree in self.functions[name]:
-            known = {}
+            known: dict[str, Any] = {}
             if all(self.fits(pattern, value, known) for pattern, value in zip(patterns, given)):
                 return self.value(tree, known)
         raise ValueError("no clause of %s fits" % name)
 
-    def fits(self, pattern, value, known):
+    def fits(self, pattern: Any, value: Any, known: dict[str, Any]) -> bool:
         """Whether a value has the form of a pattern, whose variables are known then."""
         head = pattern[0]
         if head not in self.constructors and head not in ("∷", "[]"):
@@ -139,18 +146,18 @@ class Machine:
         return isinstance(value, tuple) and value[0] == head and len(value) == len(pattern) and all(
             self.fits(part, inner, known) for part, inner in zip(pattern[1:], value[1:]))
 
-    def step(self, state, kind):
+    def step(self, state: Any, kind: Kind) -> Any:
         """The state behind a token."""
         return self.called("line_step", [state, kind])
 
-    def may_end(self, state):
+    def may_end(self, state: Any) -> bool:
         return self.called("finish", [state]) != ("None",)
 
-    def words(self):
+    def words(self) -> list[str]:
         """All words that the definitions name."""
         found = set()
 
-        def look(tree):
+        def look(tree: Any) -> None:
             if isinstance(tree, dict):
                 found.update([tree["text"]] if "text" in tree else [])
                 tree = list(tree.values())
@@ -171,15 +178,16 @@ class Stop:
     """Where a line stops to be one: the state before, the number of the token that can't follow (that behind the last one where the line
     ends too early), and the tokens."""
 
-    def __init__(self, line):
+    def __init__(self, line: bytes) -> None:
         self.line = line
         self.tokens, self.bad = tokens_of(line)
-        self.state, self.number, self.is_followed = ("Fresh",), 0, len(self.tokens) <= MOST_TOKENS
+        self.state: Kind = ("Fresh",)
+        self.number, self.is_followed = 0, len(self.tokens) <= MOST_TOKENS
         self.states = [self.state]
         if self.is_followed:
             self.follow()
 
-    def follow(self):
+    def follow(self) -> None:
         for token in self.tokens:
             following = MACHINE.step(self.state, token.kind)
             if following == ("Stop",):
@@ -187,22 +195,22 @@ class Stop:
             self.state, self.number = following, self.number + 1
             self.states.append(following)
 
-    def is_sentence(self):
+    def is_sentence(self) -> bool:
         return self.is_followed and self.bad is None and self.number == len(self.tokens) and MACHINE.may_end(self.state)
 
-    def place(self):
+    def place(self) -> int:
         """The place in the line, from 0."""
         return self.tokens[self.number].start if self.number < len(self.tokens) else len(self.line)
 
-    def token(self, behind=0):
+    def token(self, behind: int = 0) -> Token | None:
         """The token that can't follow or another one near it, or None."""
         at = self.number + behind
         return self.tokens[at] if 0 <= at < len(self.tokens) else None
 
-    def text(self, token):
+    def text(self, token: Token | None) -> str:
         return self.line[token.start:token.stop].decode("latin-1") if token else ""
 
-    def expected(self):
+    def expected(self) -> tuple[set[str], list[str], bool]:
         """What could follow: kinds of tokens, words that the language names, and whether the line may end."""
         candidates = [("Word", ANY_WORD), ("Name", ANY_NAME), ("Number", 1)] + [(kind,) for kind in MARKS.values()]
         kinds = {kind[0] for kind in candidates if MACHINE.step(self.state, kind) != ("Stop",)}
@@ -210,6 +218,6 @@ class Stop:
         return kinds, words, MACHINE.may_end(self.state)
 
 
-def is_line(text):
+def is_line(text: bytes) -> bool:
     """Whether a text is a command, as far as the tokens tell. Lines of the desk are commands of their own."""
     return Stop(text).is_sentence()

@@ -1,10 +1,17 @@
 """What is told of a line that is no command: what was expected, what it looks like in other notations, and the line that was meant where
 that is without doubt."""
+
+from __future__ import annotations
+
 import re
+from collections.abc import Iterable, Sequence
+from typing import Optional
 
-from known import NAME
-from machine import COMMANDS, SIGNS, Stop, is_line
+from known import NAME, Known
+from machine import COMMANDS, SIGNS, Kind, Stop, is_line
 
+# What is told, and the line that was meant, if one was.
+Told = tuple[str, Optional[str]]
 QUERIES_OF_DESK = ["bounds", "at", "growth", "undo", "redo"]
 WORDS = sorted(COMMANDS + QUERIES_OF_DESK)
 # Arrows of other notations, and signs that look like those of the language.
@@ -37,7 +44,7 @@ NO_SUCH = {
 DECIMALS = "numbers are whole, and this has a part behind its point"
 
 
-def distance(first, second):
+def distance(first: str, second: str) -> int:
     """How many signs have to be put, taken, changed or exchanged with their neighbour."""
     rows = [list(range(len(second) + 1))]
     for i, one in enumerate(first, 1):
@@ -51,7 +58,7 @@ def distance(first, second):
     return rows[-1][-1]
 
 
-def nearest(word, words):
+def nearest(word: str, words: Sequence[str]) -> str | None:
     """The word that was meant, or None: the only one that few changes lead to, or that begins so."""
     if not word:
         return None
@@ -64,32 +71,32 @@ def nearest(word, words):
     return begun[0] if len(begun) == 1 else None
 
 
-def quoted(words, last="or"):
+def quoted(words: Iterable[str], last: str = "or") -> str:
     words = ["`%s`" % word for word in words]
     return words[0] if len(words) == 1 else "%s %s %s" % (", ".join(words[:-1]), last, words[-1])
 
 
-def listed(parts):
+def listed(parts: Sequence[str]) -> str:
     """Parts of a sentence one after another, or between the last ones."""
     return parts[0] if len(parts) == 1 else ", ".join(parts[:-1]) + " or " + parts[-1]
 
 
-def text_of(line):
+def text_of(line: bytes) -> str:
     return line.decode("utf-8", "surrogateescape")
 
 
-def is_meant(text):
+def is_meant(text: str) -> bool:
     """Whether a text is a command, and can be offered so."""
     word = text.split()[:1]
     return bool(word) and (word[0] in QUERIES_OF_DESK or is_line(text.encode("utf-8", "surrogateescape")))
 
 
-def offered(told, text):
+def offered(told: str, text: str) -> Told:
     """What is told, with the line that is meant where it is one."""
     return told, text if is_meant(text) else None
 
 
-def label_for(name, known):
+def label_for(name: str, known: Known) -> str:
     """A label of its own for a rule of this name."""
     stem = re.sub(r"\W", "", name).lower() or "p"
     labels = [stem] + [stem + str(number) for number in range(2, 99)]
@@ -100,7 +107,7 @@ def label_for(name, known):
 FOREIGN_RULE = re.compile(r"\s*(?:[pP]\d*\s*[:.)]\s*)?(%s(?:\([^()]*\))?)\s*(-->|->|==>|=>|:=|[\u2192\u21d2\u27f6\u21a6\u279c]|\\to\b|=|:)\s*(\S.*?)\s*;?\s*$" % NAME)
 
 
-def foreign_rule(text, known):
+def foreign_rule(text: str, known: Known) -> str | None:
     """The production line that a rule in another notation is, or None: `F=F+F`, `F -> FF`, `F:F+F`."""
     found = FOREIGN_RULE.match(text)
     if not found:
@@ -122,7 +129,7 @@ MEANT = [("Arrow", "`=>`"), ("Colon", "`:` and a condition"), ("At", "`@` and a 
 OPERATORS = {"Plus", "Minus", "Times", "Slash", "Percent", "Caret", "Equal", "Unequal", "Less", "Greater", "AtMost", "AtLeast", "Ampersand", "Bar"}
 
 
-def of_expression(kinds):
+def of_expression(kinds: set[str]) -> list[str]:
     """What may follow within an expression."""
     if "Number" in kinds:
         return ["a whole number", "a parameter's name", "`(`", "`-`", "`!`"]
@@ -132,7 +139,7 @@ def of_expression(kinds):
     return ["an operator, as `+` or `<`"] + ends
 
 
-def expected_at(stop):
+def expected_at(stop: Stop) -> str:
     """What could follow, in words, by what the machine takes."""
     kinds, words, may_end = stop.expected()
     state = stop.state[0]
@@ -158,21 +165,26 @@ def expected_at(stop):
 class Case:
     """A line that is no command: its text, the place where it stops to be one, and what stands there."""
 
-    def __init__(self, line, known):
+    def __init__(self, line: bytes, known: Known) -> None:
         self.line, self.text, self.known, self.stop = line, text_of(line), known, Stop(line)
         self.at = self.stop.bad if self.stop.bad is not None else self.stop.place()
         self.before, self.behind = text_of(line[:self.at]), text_of(line[self.at:])
         self.here = self.behind[:1]
-        self.word = (re.match(r"\s*([A-Za-z]\w*)", self.text) or [None, ""])[1]
+        self.word = "".join(re.findall(r"^\s*([A-Za-z]\w*)", self.text))
         self.state = self.stop.state[0]
-        self.rule = self.stop.state[-1] if self.state in ("InProduction", "InHomomorphism") else ("",)
+        self.rule: Kind = self.stop.state[-1] if self.state in ("InProduction", "InHomomorphism") else ("",)
 
-    def with_here(self, old, new):
+    def kind(self) -> str:
+        """The kind of the token that can't follow."""
+        token = self.stop.token()
+        return token.kind[0] if token else ""
+
+    def with_here(self, old: str, new: str) -> str:
         """The line with something else in the place of what stands here."""
         return self.before + new + self.behind[len(old):]
 
 
-def other_arrow(case):
+def other_arrow(case: Case) -> Told | None:
     """An arrow of another notation within a production."""
     if case.word not in ("production", "hom"):
         return None
@@ -185,7 +197,7 @@ def other_arrow(case):
     return None
 
 
-def desk_line(case):
+def desk_line(case: Case) -> Told | None:
     """The lines that the machine doesn't know: what goes back, and what is told of pictures and of growth."""
     if case.word not in QUERIES_OF_DESK:
         return None
@@ -195,14 +207,14 @@ def desk_line(case):
     return offered("nothing follows `%s`" % case.word, case.word)
 
 
-def equality(case):
+def equality(case: Case) -> Told | None:
     """One sign of equality for two."""
     if case.here == "=" and case.rule[0] == "InExpr":
         return offered("equality is told by `==`", case.with_here("=", "=="))
     return None
 
 
-def alone(case):
+def alone(case: Case) -> Told | None:
     """Something behind a word that stands alone."""
     if case.word not in ("svg", "segments", "show", "quit") or case.text.strip() == case.word:
         return None
@@ -212,9 +224,9 @@ def alone(case):
     return offered(told, case.word)
 
 
-def decimals(case):
+def decimals(case: Case) -> Told | None:
     """A number with a part behind its point."""
-    number = re.search(r"(\d*)$", case.before).group(1) + (re.match(r"\.\d*", case.behind) or [""])[0]
+    number = "".join(re.findall(r"\d*$", case.before)[:1] + re.findall(r"^\.\d*", case.behind))
     if case.here != "." or not re.search(r"\d", number) or case.word not in WORDS:
         return None
     if case.word in ("depth", "seed", "string", "version"):
@@ -226,7 +238,7 @@ def decimals(case):
     return DECIMALS + ": take a smaller unit, as F(3) for 1.5 and F(2) for 1", None
 
 
-def semicolon(case):
+def semicolon(case: Case) -> Told | None:
     if case.here != ";" or not case.before.strip():
         return None
     if not case.behind[1:].strip():
@@ -234,7 +246,7 @@ def semicolon(case):
     return "a comment stands on a line of its own, which begins with `;`: put it above", None
 
 
-def comment(case):
+def comment(case: Case) -> Told | None:
     """A comment as other languages have it."""
     found = re.match(r"\s*(//|#+|--+|/\*+|%+|\"+|'+)\s?(.*?)(\*/)?$", case.text)
     if not found:
@@ -242,7 +254,7 @@ def comment(case):
     return "a comment begins with `;`", "; " + found.group(2).rstrip()
 
 
-def preprocessor(case):
+def preprocessor(case: Case) -> Told | None:
     found = re.match(r"\s*#(\w+)\s*:?\s*(.*)", case.text)
     if not found or found.group(1).lower() not in ("define", "include", "ignore", "const", "import", "set"):
         return None
@@ -251,7 +263,7 @@ def preprocessor(case):
     return "there are no constants and no other files: write the number itself in each line, or give it as a parameter, as in F(3)", None
 
 
-def lookalike(case):
+def lookalike(case: Case) -> Told | None:
     """A sign that looks like one of the language."""
     if case.here not in LOOKALIKES:
         return None
@@ -265,7 +277,7 @@ STRANGE = {"{": "there are no surfaces: `{` and `}` belong to another tool, and 
            "#": "a comment begins with `;` and stands on a line of its own", "_": "a name is a letter, or a letter, `_` and up to six letters or digits"}
 
 
-def strange_sign(case):
+def strange_sign(case: Case) -> Told | None:
     """A sign that is in no token: of another tool, or of none."""
     if case.stop.bad is None:
         return None
@@ -274,7 +286,7 @@ def strange_sign(case):
     return STRANGE.get(case.here, "`%s` belongs to no word of the language: letters, digits and + - & ^ \\ / | ! [ ] %% do" % (case.here if case.here.isprintable() else "this")), None
 
 
-def setting(case):
+def setting(case: Case) -> Told | None:
     """A colon or an equals sign behind a word that takes its value at once: `axiom: F`, `depth = 5`."""
     found = re.match(r"\s*(%s)\s*(:=|=|:)\s*(.*)" % "|".join(("axiom", "depth", "seed", "lattice", "string", "ignore", "schedule", "version", "drop", "lineage")), case.text)
     if not found or len(case.before.strip()) > len(found.group(1)):
@@ -282,7 +294,7 @@ def setting(case):
     return offered("`%s` takes what it sets at once, without `%s`" % found.group(1, 2), "%s %s" % found.group(1, 3))
 
 
-def angle_told(case):
+def angle_told(case: Case) -> Told:
     """`angle 60`: turns are those of a lattice."""
     found = re.search(r"\d+(\.\d+)?", case.text)
     degrees = found.group() if found else ""
@@ -294,7 +306,7 @@ def angle_told(case):
     return told + ("; %s degrees can't be turned by: take the one or the other lattice" % degrees if degrees else ""), None
 
 
-def foreign_word(case):
+def foreign_word(case: Case) -> Told | None:
     """A word by which another tool begins such a line."""
     word = case.word.lower()
     if case.state != "Fresh" or not word:
@@ -312,7 +324,7 @@ def foreign_word(case):
     return (NO_SUCH[word], None) if word in NO_SUCH else None
 
 
-def bare_rule(case):
+def bare_rule(case: Case) -> Told | None:
     """A rule without `production`."""
     if case.word in ("production", "hom") or case.state != "Fresh" and case.word not in WORDS:
         return None
@@ -322,7 +334,7 @@ def bare_rule(case):
     return ("a rule is a `production` with a label, and its arrow is `=>`", rule) if rule else None
 
 
-def first_word(case):
+def first_word(case: Case) -> Told | None:
     """A first word that is none of the language: misspelt, or another one."""
     if case.stop.number != 0:
         return None
@@ -330,16 +342,15 @@ def first_word(case):
         return "a line begins with a command, as `axiom`, `production`, `depth` or `svg`, and a comment with `;`", None
     near = nearest(case.word, WORDS)
     if near:
-        text = re.sub(r"^(\s*)\w+", lambda found: found.group(1) + near, case.text, count=1)
+        text = re.sub(r"^(\s*)\w+", r"\g<1>" + near, case.text, count=1)
         return offered("did you mean `%s`?" % near, text)
     return "`%s` is no command: a line begins with one, as `axiom`, `production`, `depth` or `svg`" % case.word[:20], None
 
 
-def label(case):
+def label(case: Case) -> Told | None:
     """A label that is missing, or isn't one."""
     rest = case.text.partition(case.word)[2].strip()
-    here = case.stop.token()
-    kind = case.stop.tokens[case.stop.number].kind[0] if here else ""
+    kind = case.kind()
     if kind == "LeftParen" and ":" in case.behind.partition("=>")[0] and case.state in ("OneWord", "LabelRead"):
         return "a label is a word alone: parameters stand behind the module, as in `production p: A(x) => B(x)`", None
     if case.state in ("OneWord", "ProductionDue", "LabelDue", "LabelRead") and kind in ("Arrow", "LeftParen", "Less", "Greater", "At", "Assign", "Minus", "Colon", ""):
@@ -359,7 +370,7 @@ def label(case):
     return None
 
 
-def brackets(case):
+def brackets(case: Case) -> Told | None:
     """A bracket that isn't closed, or that closes nothing."""
     if case.here == "]" and case.rule[0] != "InExpr":
         return "no `[` is open before this `]`: take it out, or put a `[` before", None
@@ -378,15 +389,15 @@ def brackets(case):
     return "the `%s` at column %d isn't closed: a `%s` is missing behind it" % (sign, len(case.text[:place].encode("utf-8", "surrogateescape")) + 1, {"[": "]", "(": ")"}[sign]), None
 
 
-def second_arrow(case):
-    if case.rule[0] == "Successor" and case.stop.token() and case.stop.token().kind[0] == "Arrow":
+def second_arrow(case: Case) -> Told | None:
+    if case.rule[0] == "Successor" and case.kind() == "Arrow":
         return "a rule has one `=>`: put what stands behind the second one into a rule of its own", None
     return None
 
 
-def behind_arrow(case):
+def behind_arrow(case: Case) -> Told | None:
     """A condition or a weight behind what is put."""
-    kind = case.stop.token().kind[0] if case.stop.token() else ""
+    kind = case.kind()
     if case.rule[0] == "Successor" and kind in ("Colon", "At"):
         what = {"Colon": "condition", "At": "weight"}[kind]
         found = re.match(r"(.*?)\s*=>\s*(.*?)\s*([:@])\s*(.*)$", case.text)
@@ -395,10 +406,9 @@ def behind_arrow(case):
     return None
 
 
-def pattern(case):
+def pattern(case: Case) -> Told | None:
     """Patterns that are none: several modules, numbers in them, contexts in another order."""
-    here = case.stop.token()
-    kind = here.kind[0] if here else ""
+    kind = case.kind()
     if case.state == "InHomomorphism" and kind in ("Less", "Greater", "At", "Percent"):
         return "a rule of the homomorphism has no contexts, weights and cuts: those are for productions", None
     if case.rule[0] == "FormalDue" and kind == "Number":
@@ -416,7 +426,7 @@ def pattern(case):
     return None
 
 
-def axiom(case):
+def axiom(case: Case) -> Told | None:
     """Parameters of an axiom are numbers."""
     if case.state != "InAxiom" or case.stop.state[1][0] == "Symbols":
         return None
@@ -425,15 +435,15 @@ def axiom(case):
     return "parameters of an axiom are whole numbers, each alone, as in F(3,-1): names and sums stand in productions", None
 
 
-def empty_parens(case):
+def empty_parens(case: Case) -> Told | None:
     if case.here == ")" and re.search(r"\(\s*$", case.before):
         return offered("a module without parameters has no parentheses", re.sub(r"\(\s*\)", "", case.text))
     return None
 
 
-def number_due(case):
+def number_due(case: Case) -> Told | None:
     """Another thing where a number or one of a few words is wanted."""
-    kind = case.stop.token().kind[0] if case.stop.token() else ""
+    kind = case.kind()
     if case.state in ("DepthDue", "SeedDue", "VersionDue", "StringRead"):
         number = {"one": 1, "two": 2, "three": 3, "four": 4, "five": 5, "six": 6, "seven": 7, "eight": 8, "nine": 9, "ten": 10}.get(case.behind.strip().lower())
         if number:
@@ -451,7 +461,7 @@ def number_due(case):
     return None
 
 
-def nothing_more(case):
+def nothing_more(case: Case) -> Told | None:
     """Something behind a command that is whole."""
     if case.state != "Whole":
         return None
@@ -463,7 +473,7 @@ CASES = [desk_line, semicolon, lookalike, other_arrow, alone, equality, preproce
          pattern, empty_parens, axiom, number_due, nothing_more]
 
 
-def syntax_hint(line, known):
+def syntax_hint(line: bytes, known: Known) -> Told:
     """What is told of a line that is no command, and the line that is meant, or None."""
     case = Case(line, known)
     if not case.stop.is_followed:

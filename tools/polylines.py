@@ -2,14 +2,18 @@
 
 Where the Python of the tools has no ezdxf, another one that has it runs this file: runs come from standard input, and the DXF goes to standard output.
 """
+
+from __future__ import annotations
+
 import io
 import json
 import sys
+from typing import Any
 
 from ezdxf.addons import r12writer
 
 
-def put(drawing, is_flat, width, points):
+def put(drawing: Any, is_flat: bool, width: int, points: list[list[float]]) -> None:
     """A run as a polyline, closed where it ends where it began. One in the plane is a polyline of two dimensions, which cutters take."""
     layer, is_closed = "WIDTH_%d" % width, len(points) > 2 and points[0] == points[-1]
     points = points[:-1] if is_closed else points
@@ -19,7 +23,7 @@ def put(drawing, is_flat, width, points):
         drawing.add_polyline(points, closed=is_closed, layer=layer)
 
 
-def drawn(is_flat, runs):
+def drawn(is_flat: bool, runs: list[tuple[int, list[list[float]]]]) -> bytes:
     """The bytes of a DXF."""
     file = io.StringIO()
     with r12writer(file) as drawing:

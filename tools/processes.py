@@ -1,10 +1,14 @@
 """The processes of this machine, as far as its /proc tells."""
+
+from __future__ import annotations
+
 import os
+from collections.abc import Iterable, Iterator
 
 TICK = os.sysconf("SC_CLK_TCK") if hasattr(os, "sysconf") else 100
 
 
-def folder_of(number):
+def folder_of(number: int) -> str:
     """The folder of a process, or none where it has ended and its parent hasn't asked for its status yet."""
     try:
         return os.readlink("/proc/%d/cwd" % number)
@@ -16,7 +20,7 @@ class Process:
     """A process: its number, its parent's, its words, its folder, and its seconds of processor time: its own, and with those of its
     ended children."""
 
-    def __init__(self, number):
+    def __init__(self, number: int) -> None:
         with open("/proc/%d/stat" % number) as file:
             stat = file.read().rpartition(")")[2].split()
         with open("/proc/%d/cmdline" % number, "rb") as file:
@@ -27,7 +31,7 @@ class Process:
         self.own, self.whole = sum(times[:2]), sum(times)
 
 
-def processes():
+def processes() -> Iterator[Process]:
     """All processes that can be seen."""
     for number in os.listdir("/proc") if os.path.isdir("/proc") else []:
         try:
@@ -37,7 +41,7 @@ def processes():
             continue  # it has ended, or is another user's
 
 
-def below(root):
+def below(root: int) -> list[Process]:
     """The process of a number and all that came of it, as they are now."""
     seen = list(processes())
     numbers, before = {root}, 0
@@ -47,6 +51,6 @@ def below(root):
     return [process for process in seen if process.number in numbers]
 
 
-def spent(found):
+def spent(found: Iterable[Process]) -> float:
     """The seconds of processor time of these processes and of their ended children."""
     return sum(process.whole for process in found)

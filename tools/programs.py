@@ -1,5 +1,8 @@
 """The programs that this checkout has built, and whether they are newer than all that they were made from. Where there are tools and
 no sources, as where they are installed, the program that came with them."""
+
+from __future__ import annotations
+
 import filecmp
 import os
 import shutil
@@ -7,6 +10,7 @@ import subprocess
 import sys
 import tempfile
 import time
+from collections.abc import Iterator, Sequence
 
 sys.dont_write_bytecode = True
 from building import NO_TOOLCHAIN, build_without_proofs
@@ -20,12 +24,12 @@ UNPROVED = os.path.join(TOP, "build", "lsys-unproved")
 UNPROVED_COST = "3 to 7 minutes"
 
 
-def is_checkout():
+def is_checkout() -> bool:
     """Whether the sources are here."""
     return os.path.exists(os.path.join(TOP, "crates.txt"))
 
 
-def crates_of_the_program():
+def crates_of_the_program() -> list[str]:
     """The names of the crate `lsys` and of those that it stands on, lowest first."""
     needs = {}
     with open(os.path.join(TOP, "crates.txt")) as file:
@@ -35,7 +39,7 @@ def crates_of_the_program():
                 needs[name.split()[0]] = below.split()
     order = []
 
-    def visit(name):
+    def visit(name: str) -> None:
         for below in needs.get(name, []):
             visit(below)
         if name in needs and name not in order:
@@ -45,7 +49,7 @@ def crates_of_the_program():
     return order
 
 
-def sources():
+def sources() -> Iterator[str]:
     """All files, and all folders of files, that decide what the program does and what is claimed of it."""
     yield os.path.join(TOP, "crates.txt")
     for name in crates_of_the_program():
@@ -55,7 +59,7 @@ def sources():
                 yield from (os.path.join(folder, file) for file in files)
 
 
-def is_fresh(program):
+def is_fresh(program: str) -> bool:
     """Whether the program is there and nothing that it was made from has changed since."""
     if not os.access(program, os.X_OK):
         return False
@@ -63,18 +67,18 @@ def is_fresh(program):
     return all(os.path.getmtime(source) <= made for source in sources())
 
 
-def fresh_proved():
+def fresh_proved() -> str | None:
     """The path of a proved program that is fresh, or None."""
-    return next(filter(is_fresh, PROVED), None)
+    return next((program for program in PROVED if is_fresh(program)), None)
 
 
-def shown(path):
+def shown(path: str) -> str:
     """A path as one types it in the folder that one is in."""
     near = os.path.relpath(path)
     return path if near.startswith("../..") else near
 
 
-def build_unproved():
+def build_unproved() -> None:
     """Builds the program without proofs and keeps it. Says what it costs, stage by stage."""
     if not shutil.which("rt"):
         give_up(NO_TOOLCHAIN, 127)
@@ -90,13 +94,13 @@ def build_unproved():
         say("this toolchain gave a slow program, some hundred times slower than the proved one, which make builds")
 
 
-def is_proved(program):
+def is_proved(program: str) -> bool:
     """Whether this is the program that `make` or the gate has proved, of these very sources."""
     proved = fresh_proved() if is_checkout() else None
     return proved is not None and filecmp.cmp(program, proved, shallow=False)
 
 
-def ready_program():
+def ready_program() -> str:
     """The program that came with these tools, where no sources did: in bin/ beside them, or in bin/ of where they are installed; or one
     in PATH."""
     beside = [PROVED[0], os.path.join(os.path.dirname(os.path.dirname(TOP)), "bin", "lsys")]
@@ -104,7 +108,7 @@ def ready_program():
     return program or give_up("there is no program: neither %s nor lsys in PATH" % beside[0])
 
 
-def fresh_program():
+def fresh_program() -> str:
     """The path of a program that is newer than all sources: a proved one where there is one, and else an unproved one, which is
     built where that is needed. Says which one it is."""
     if not is_checkout():
@@ -119,7 +123,7 @@ def fresh_program():
     return UNPROVED
 
 
-def checked(program, words=()):
+def checked(program: str, words: Sequence[str] = ()) -> str:
     """The path of a program that a person named, with these words. Ends this process where it doesn't answer as `lsys` does."""
     named = os.path.abspath(program)
     try:
@@ -132,6 +136,6 @@ def checked(program, words=()):
     return named
 
 
-def program_of(named, words=()):
+def program_of(named: str | None, words: Sequence[str] = ()) -> str:
     """The program that a person named or else a fresh one; both have to take these words."""
     return checked(named or fresh_program(), words) if named or words else fresh_program()

@@ -9,13 +9,16 @@ is what the borrow checker makes of the function PATH, and grows with the values
 `PATH.Proof` and `PATH.Answers` are what was proved by search and by hand. --test checks the crate's tests, and --only a function,
 a type or a module alone. On a busy machine all times are longer. `tools/goal_times` tells the goals apart.
 """
+
+from __future__ import annotations
+
 import tempfile
 
 from checking import checked, modules, seconds
 from telling import Words
 
 
-def main():
+def main() -> int:
     words = Words(__doc__)
     words.add_argument("crate")
     words.add_argument("--test", action="store_true")

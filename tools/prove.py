@@ -4,6 +4,9 @@ usage: tools/prove
 
 What the toolchain says is kept in build/prove.log, and shown where a proof fails; the status is then the toolchain's.
 """
+
+from __future__ import annotations
+
 import os
 import re
 import shutil
@@ -21,7 +24,7 @@ SELDOM = 30
 LOG = os.path.join(TOP, "build", "prove.log")
 
 
-def prove(crate):
+def prove(crate: str) -> tuple[int, str]:
     """Proves and builds one crate, and returns the toolchain's status and what it said."""
     is_program = os.path.exists(os.path.join(TOP, "crates", crate, "src", "main.rt"))
     ran = subprocess.run(["rt", "run" if is_program else "lib"], cwd=os.path.join(TOP, "crates", crate), stdin=subprocess.DEVNULL,
@@ -29,7 +32,7 @@ def prove(crate):
     return ran.returncode, ran.stdout
 
 
-def keep_program(begun):
+def keep_program(begun: float) -> None:
     """Puts the program into bin/. An edit that was made while the proofs ran makes it stale."""
     bin_program, made = PROVED
     os.makedirs(os.path.dirname(bin_program), exist_ok=True)
@@ -40,7 +43,7 @@ def keep_program(begun):
     print("%s is built, in %d s." % (shown(bin_program), time.time() - begun))
 
 
-def main():
+def main() -> int:
     if sys.argv[1:]:
         print(__doc__)
         return 0 if set(sys.argv[1:]) & {"-h", "--help"} else 2

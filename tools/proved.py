@@ -10,12 +10,18 @@ A row of its tables has a promise, a clause and a file, which is below the crate
   `NAME` `field`, ..   in a file of definitions: it has this name, and the record has these fields
 Each cell is a line: at most 120 columns. Each law of a crate has a row. --unnamed lists what else public functions ensure that no row names.
 """
+
+from __future__ import annotations
+
 import collections
 import os
 import re
 import sys
+from collections.abc import Iterable, Iterator
+from typing import NamedTuple
 
 from programs import TOP
+from sources import closed
 
 PAGE = os.path.join(TOP, "docs", "PROVED.md")
 MOST_COLUMNS = 120
@@ -26,26 +32,30 @@ ANSWER = re.compile(r"->\s*(.*?)\s*(?=\n\s*(?:requires|ensures|decreases)|\{|;)"
 DEFINED = r"^[ \t]*(?:(?:abbrev|unfoldable) pub|pub (?:record|data)|(?:record|data) pub) %s(?=[\s:(])"
 TOLD = re.compile(r"`([^`]+)`")
 
-Function = collections.namedtuple("Function", "owner is_public answer labels")
-Row = collections.namedtuple("Row", "line crate promise clause file")
+
+class Function(NamedTuple):
+    """A function as a source has it: what it belongs to, whether it is public, its type, and the labels of what it ensures."""
+    owner: list[str]
+    is_public: bool
+    answer: str
+    labels: list[str]
 
 
-def text_of(path):
+class Row(NamedTuple):
+    """A row of the page."""
+    line: int
+    crate: str
+    promise: str
+    clause: str
+    file: str
+
+
+def text_of(path: str) -> str:
     with open(path, encoding="utf-8") as file:
         return file.read()
 
 
-def closed(text, at):
-    """Where the brace that opens here is closed."""
-    depth = 0
-    for place in range(at, len(text)):
-        depth += (text[place] == "{") - (text[place] == "}")
-        if not depth:
-            return place + 1
-    return len(text)
-
-
-def plain(words):
+def plain(words: str) -> list[str]:
     """The words of an impl without what stands in angle brackets."""
     while "<" in words and words != re.sub(r"<[^<>]*>", "", words):
         words = re.sub(r"<[^<>]*>", "", words)
@@ -55,9 +65,12 @@ def plain(words):
 class Source:
     """What a file of source has: its functions by name, the types with an invariant, its enums with their variants."""
 
-    def __init__(self, text):
-        self.functions, self.invariants, self.enums = collections.defaultdict(list), set(), {}
-        owner, ends = [], 0
+    def __init__(self, text: str) -> None:
+        self.functions: dict[str, list[Function]] = collections.defaultdict(list)
+        self.invariants: set[str] = set()
+        self.enums: dict[str, list[str]] = {}
+        owner: list[str] = []
+        ends = 0
         for found in HEAD.finditer(text):
             if found["kind"] == "fn":
                 self.add_function(text, found, owner if found.start() < ends else [])
@@ -71,7 +84,7 @@ class Source:
                 opens = text.find("{", found.end())
                 self.enums[found["name"]] = re.findall(r"^ {4}(\w+)", text[opens:closed(text, opens)], re.M)
 
-    def add_function(self, text, found, owner):
+    def add_function(self, text: str, found: re.Match[str], owner: list[str]) -> None:
         opens, after = found.end(), HEAD.search(text, found.end())
         part = text[opens:after.start() if after else len(text)]
         answer = ANSWER.search(part.split("ensures")[0].split("requires")[0] + "{")
@@ -82,35 +95,35 @@ class Source:
 class Crates:
     """The sources and the definitions of crates, read once each."""
 
-    def __init__(self):
-        self.sources, self.lacking = {}, None
+    def __init__(self) -> None:
+        self.sources: dict[str, Source] = {}
+        self.lacking: set[str] | None = None
 
-    def source(self, path):
+    def source(self, path: str) -> Source:
         if path not in self.sources:
             self.sources[path] = Source(text_of(path))
         return self.sources[path]
 
-    def lack_memory(self):
+    def lack_memory(self) -> set[str]:
         """The types of error that may be want of memory."""
         if self.lacking is None:
-            self.lacking = {"AllocError"}
-            for path in sorted(files("src", ".rt")):
-                self.lacking.update(name for name, variants in self.source(path).enums.items() if "Memory" in variants)
+            enums = [self.source(path).enums for path in sorted(files("src", ".rt"))]
+            self.lacking = {"AllocError", *(name for found in enums for name, variants in found.items() if "Memory" in variants)}
         return self.lacking
 
 
-def files(part, end, crate=None):
+def files(part: str, end: str, crate: str | None = None) -> Iterator[str]:
     for name in [crate] if crate else sorted(os.listdir(os.path.join(TOP, "crates"))):
         for folder, _, names in os.walk(os.path.join(TOP, "crates", name, part)):
             yield from (os.path.join(folder, file) for file in names if file.endswith(end))
 
 
-def rows_of(text):
+def rows_of(text: str) -> tuple[list[Row], list[str]]:
     """The rows of the page, and what is wrong with its form."""
     rows, wrong, crate = [], [], None
     for number, line in enumerate(text.split("\n"), 1):
         if line.startswith("### "):
-            crate = TOLD.search(line).group(1)
+            crate = TOLD.findall(line)[0]
         elif line.startswith("## "):
             crate = None
         elif crate and line.startswith("| ") and not line.startswith(("| ---", "| What is promised")):
@@ -123,13 +136,13 @@ def rows_of(text):
     return rows, wrong
 
 
-def functions_named(source, call):
+def functions_named(source: Source, call: str) -> list[Function]:
     """The functions that a call names: by its name, or by its type or trait and its name."""
     *owner, name = call.split("::")
     return [one for one in source.functions.get(name, []) if not owner and not one.owner or owner and owner[0] in one.owner]
 
 
-def fault_of_call(crates, path, call, labels, rest):
+def fault_of_call(crates: Crates, path: str, call: str, labels: list[str], rest: str) -> str | None:
     found = functions_named(crates.source(path), call)
     if not found:
         return "there is no function %s" % call
@@ -144,7 +157,7 @@ def fault_of_call(crates, path, call, labels, rest):
     return None
 
 
-def body_of(text, found):
+def body_of(text: str, found: re.Match[str]) -> str:
     """The lines of a definition behind the one that names it: those that are indented more than it is."""
     indent = len(found.group()) - len(found.group().lstrip())
     lines = []
@@ -155,7 +168,7 @@ def body_of(text, found):
     return "\n".join(lines)
 
 
-def fault_of_fact(path, name, fields):
+def fault_of_fact(path: str, name: str, fields: list[str]) -> str | None:
     text = text_of(path)
     found = re.search(DEFINED % re.escape(name), text, re.M)
     if not found:
@@ -164,9 +177,10 @@ def fault_of_fact(path, name, fields):
     return "%s has no field %s" % (name, ", ".join(missing)) if missing else None
 
 
-def fault_of(crates, row):
+def fault_of(crates: Crates, row: Row) -> str | None:
     """What is wrong with a row, or None."""
-    path = os.path.join(TOP, "crates", row.crate, TOLD.search(row.file).group(1)) if TOLD.search(row.file) else ""
+    files_told = TOLD.findall(row.file)
+    path = os.path.join(TOP, "crates", row.crate, files_told[0]) if files_told else ""
     told = TOLD.findall(row.clause)
     if not os.path.isfile(path):
         return "there is no file %s" % row.file
@@ -180,7 +194,7 @@ def fault_of(crates, row):
     return fault_of_call(crates, path, told[0], told[1:], rest)
 
 
-def public_clauses(crates, names):
+def public_clauses(crates: Crates, names: Iterable[str]) -> Iterator[tuple[str, str, list[str]]]:
     """Of each public function of these crates: its crate, its call and its labels."""
     for crate in names:
         for path in sorted(files("src", ".rt", crate)):
@@ -190,7 +204,7 @@ def public_clauses(crates, names):
                         yield crate, "::".join(one.owner[-1:] + [name]), one.labels
 
 
-def main():
+def main() -> int:
     if set(sys.argv[1:]) - {"--unnamed"}:
         print(__doc__)
         return 2

@@ -14,10 +14,14 @@ where and why. These lines are the session's own:
 
 Where input or output is no terminal it answers lines without a prompt. Without --program a program is taken that is newer than its sources.
 """
+
+from __future__ import annotations
+
 import glob
 import os
 import re
 import sys
+from collections.abc import Iterable, Iterator
 
 from hints import LIMIT, MOST_LIMIT, as_told, hint
 from known import Known
@@ -38,17 +42,20 @@ NAME = re.compile(r"[A-Za-z](?:_[A-Za-z0-9]{1,6})?")
 class Conversation:
     """The program, the edits that it took, and what is told of the others."""
 
-    def __init__(self, program, limit):
-        self.path, self.limit, self.program, self.taken = program, limit, None, []
-        self.begin()
+    def __init__(self, program: str, limit: int) -> None:
+        self.path, self.limit = program, limit
+        self.program = self.started()
+        self.taken: list[bytes] = []
 
-    def begin(self):
+    def started(self) -> Program:
+        return Program([self.path, "--limit", str(self.limit)])
+
+    def begin(self) -> None:
         """Starts the program anew, which knows nothing then."""
-        if self.program:
-            self.program.close()
-        self.program, self.taken = Program([self.path, "--limit", str(self.limit)]), []
+        self.program.close()
+        self.program, self.taken = self.started(), []
 
-    def answer(self, line):
+    def answer(self, line: bytes) -> tuple[str, str]:
         """What is written to a line of the language, and what is told besides."""
         reply = self.program.ask(line)
         if not reply.startswith("refused "):
@@ -59,7 +66,7 @@ class Conversation:
         told = as_told(hint(line, reply, self.taken, self.limit, "session", [self.path, "--limit", str(self.limit)]))
         return reply, "\n".join([told] + ["    " + text for text in shown_line])
 
-    def take(self, script):
+    def take(self, script: bytes) -> None:
         """Answers the lines of a script, and tells what was refused."""
         self.begin()
         for number, line in commands_of(script):
@@ -68,7 +75,7 @@ class Conversation:
                 say("line %d: %s: %s" % (number, reply.rstrip("\n"), told))
         say("1 edit was taken" if len(self.taken) == 1 else "%d edits were taken" % len(self.taken))
 
-    def words(self):
+    def words(self) -> dict[str, set[str]]:
         """The labels, tables and names of the edits that were taken."""
         known, texts = Known(self.taken), [line.decode("latin-1") for line in self.taken]
         names = {name for text in texts for name in NAME.findall(text.partition(":")[2] or text.partition(" ")[2])}
@@ -78,11 +85,11 @@ class Conversation:
 class Terminal:
     """What a person types, and the session's own lines."""
 
-    def __init__(self, conversation):
+    def __init__(self, conversation: Conversation) -> None:
         self.conversation = conversation
         self.is_here = sys.stdin.isatty() and sys.stdout.isatty()
 
-    def lines(self):
+    def lines(self) -> Iterator[bytes]:
         """The lines that are typed, to the end of the input."""
         if not self.is_here:
             for line in sys.stdin.buffer:
@@ -97,7 +104,7 @@ class Terminal:
             except EOFError:
                 return print()
 
-    def read_with_history(self):
+    def read_with_history(self) -> None:
         try:
             import readline
         except ImportError:
@@ -107,12 +114,12 @@ class Terminal:
         readline.parse_and_bind("tab: complete")
         return say(BEGIN)
 
-    def completions(self, line, text):
+    def completions(self, line: str, text: str) -> list[str]:
         """The words that may stand where a word begins with `text`, at the end of a line."""
         before = line[:len(line) - len(text)]
         return [word + " " * (word in COMMANDS) for word in sorted(self.words_behind(before)) if word.startswith(text)] if text or before else COMMANDS
 
-    def words_behind(self, before):
+    def words_behind(self, before: str) -> Iterable[str]:
         words, known = before.split(), self.conversation.words()
         if before.strip() == ":":
             return [word[1:] for word in OWN]
@@ -128,7 +135,7 @@ class Terminal:
             return known["tables"] - {"main"} if ":" not in before else known["names"]
         return (known["labels"] | known["tables"]) - {"main"} if words[0] in ("production", "hom") and ":" not in before else known["names"]
 
-    def run(self):
+    def run(self) -> None:
         for line in self.lines():
             if line.strip() in (b"quit", b":quit"):
                 return
@@ -137,7 +144,7 @@ class Terminal:
             elif is_command(line):
                 self.answer(line)
 
-    def answer(self, line):
+    def answer(self, line: bytes) -> None:
         try:
             reply, told = self.conversation.answer(line)
         except Ended:
@@ -147,7 +154,7 @@ class Terminal:
         sys.stdout.buffer.flush()
         return say(told) if told else None
 
-    def own(self, words):
+    def own(self, words: list[str]) -> None:
         word, rest = words[0], words[1].strip() if words[1:] else ""
         try:
             if word == ":picture":
@@ -166,7 +173,7 @@ class Terminal:
         except OSError as error:
             say("%s: %s" % (rest, error.strerror))
 
-    def picture(self, path):
+    def picture(self, path: str) -> None:
         reply, told = self.conversation.answer(b"svg")
         if told:
             return say("no picture: %s" % told)
@@ -177,7 +184,7 @@ class Terminal:
         return say("a picture: %s" % shown(os.path.abspath(path)))
 
 
-def main():
+def main() -> int:
     parser = Words(__doc__)
     parser.add_argument("script", nargs="?")
     parser.add_argument("--program")

@@ -20,11 +20,16 @@ have together, 1 to 1,000,000. The status is the program's: 0 where no line was 
 the program that `make` or the gate has built; else it builds one without proofs, in 3 to 7 minutes of one processor, and keeps it in
 build/ for the next time.
 """
+
+from __future__ import annotations
+
 import os
 import re
 import subprocess
 import sys
 import tempfile
+from collections.abc import Iterable, Iterator
+from typing import IO, Any
 
 from hints import LIMIT, as_told, hint
 from programs import TOP, is_checkout, program_of, shown
@@ -38,7 +43,7 @@ NO_LINES = "line %d: no lines, and so no picture is written: only names that beg
 ELSEWHERE = re.compile(rb"[^A-Za-z_]G")
 
 
-def folder_for(script, out):
+def folder_for(script: str, out: str | None) -> str:
     """Where the pictures of a script go."""
     if out or script == "-":
         return out or "."
@@ -48,7 +53,7 @@ def folder_for(script, out):
     return os.path.join(TOP, "build", "pictures") if is_checkout() else "pictures"
 
 
-def goes_to_one_place():
+def goes_to_one_place() -> bool:
     """Whether standard output and standard error are the same terminal, pipe or file."""
     try:
         out, error = os.fstat(1), os.fstat(2)
@@ -60,13 +65,14 @@ def goes_to_one_place():
 class Run:
     """A run of a script: where its pictures go and how many there are, the edits that were taken, and what is told of its refusals."""
 
-    def __init__(self, script, options, words):
-        self.commands, self.words, self.taken = commands_of(script), words, []
+    def __init__(self, script: bytes, options: Any, words: list[str]) -> None:
+        self.commands, self.words = commands_of(script), words
+        self.taken: list[bytes] = []
         self.folder = folder_for(options.script, options.out)
         self.name = "script" if options.script == "-" else os.path.splitext(os.path.basename(options.script))[0]
         self.limit, self.count, self.is_told_once = limit_of(options), 0, goes_to_one_place()
 
-    def write_picture(self, number, lines):
+    def write_picture(self, number: int, lines: Iterator[bytes]) -> None:
         """Writes a picture into a file, but none without lines."""
         head = []
         for line in lines:
@@ -89,7 +95,7 @@ class Run:
             return say("no picture can be written to %s: %s; --out FOLDER puts it elsewhere" % (path, error.strerror))
         return say("a picture: %s" % shown(path))
 
-    def pass_on(self, replies):
+    def pass_on(self, replies: IO[bytes]) -> None:
         """Puts pictures into files, writes the other replies as they come, and tells of each refusal."""
         written = Lines(replies.readline)
         for first in iter(written.peek, b""):
@@ -100,20 +106,20 @@ class Run:
                 continue
             is_told = first.startswith(b"refused ") and number
             if is_told and self.is_told_once:
-                lines = list(lines)[1:]
+                next(lines)
             write(lines)
             if is_told:
                 self.tell(number, line, first)
             elif first.startswith(b"ok "):
                 self.taken.append(line)
 
-    def tell(self, number, line, reply):
+    def tell(self, number: int, line: bytes, reply: bytes) -> None:
         """Tells of a refusal, with what helps and the line that was meant."""
         found = hint(line, reply.decode("latin-1").rstrip("\n"), self.taken, self.limit, words=self.words)
         say(refusal(number, line, reply, meaning=as_told(found)))
 
 
-def write(lines):
+def write(lines: Iterable[bytes]) -> None:
     """Passes lines on. Where the reader has gone, the pictures are still drawn."""
     try:
         for line in lines:
@@ -123,12 +129,12 @@ def write(lines):
         read_no_further()
 
 
-def limit_of(options):
+def limit_of(options: Any) -> int:
     """The limit that holds, where its words are right."""
     return int(options.limit) if options.limit and options.limit.isdigit() else LIMIT
 
 
-def words_of_tool():
+def words_of_tool() -> Any:
     parser = Words(__doc__)
     parser.add_argument("script", nargs="?")
     for name in ("--out", "--program", "--limit", "--sample"):
@@ -141,14 +147,14 @@ def words_of_tool():
     return options
 
 
-def read(path):
+def read(path: str) -> bytes:
     try:
         return read_script(path, say)
     except OSError as error:
         return give_up("no script at %s: %s" % (path, error.strerror), 2)
 
 
-def main():
+def main() -> int:
     options = words_of_tool()
     # What a sample answers is no answer to a script's lines.
     script = b"" if options.sample is not None else read(options.script)
@@ -159,6 +165,7 @@ def main():
         source.write(script)
         source.seek(0)
         running = subprocess.Popen([program] + words, stdin=source, stdout=subprocess.PIPE)
+        assert running.stdout
         try:
             run.pass_on(running.stdout)
         finally:

@@ -1,4 +1,7 @@
 """What the page of `tools/look` is answered. Each request has an answer, and none can end a thread of the server's otherwise."""
+
+from __future__ import annotations
+
 import http.server
 import json
 import os
@@ -7,9 +10,12 @@ import socket
 import sys
 import time
 import urllib.parse
+from collections.abc import Callable, Iterable
+from typing import Any
 
 import formats
-from desk import LONGEST_SCRIPT, Wrong
+from desk import LONGEST_SCRIPT, Desk, Gallery, Wrong
+from guard import Guard
 from programs import TOP
 from telling import say
 from watching import Watching
@@ -35,26 +41,30 @@ DATA = ("state", "busy", "language", "gallery", "picture", "level", "export", *W
 class Answer(http.server.BaseHTTPRequestHandler):
     """The page, what it shows, and what it changes. Only a page of this server is answered."""
     protocol_version = "HTTP/1.1"
-    desk = gallery = guard = watching = None
+    # What tools/look puts here before it serves.
+    desk: Desk
+    gallery: Gallery
+    guard: Guard
+    watching: Watching
     is_plain = False
 
-    def setup(self):
+    def setup(self) -> None:
         self.is_other = not self.guard.is_own(self.client_address)
-        self.timeout = PATIENCE_WITH_OTHERS if self.is_other else PATIENCE
+        self.timeout = PATIENCE_WITH_OTHERS if self.is_other else PATIENCE  # type: ignore[misc]
         super().setup()
 
-    def version_string(self):
+    def version_string(self) -> str:
         return "lsys"
 
-    def is_from_here(self):
-        here = ["%s:%d" % (name, self.server.server_port) for name in ("127.0.0.1", "localhost")]
+    def is_from_here(self) -> bool:
+        here = ["%s:%d" % (name, self.guard.port) for name in ("127.0.0.1", "localhost")]
         host, origin = self.headers.get("Host", ""), self.headers.get("Origin")
         is_own = self.headers.get("Sec-Fetch-Site", "same-origin") in ("same-origin", "none")
         # A link from elsewhere may open the page itself, which changes nothing.
         is_visit = self.command == "GET" and self.path.partition("?")[0] == "/" and self.headers.get("Sec-Fetch-Mode") == "navigate"
         return not self.is_other and host in here and origin in (None, "http://" + host) and (is_own or is_visit)
 
-    def send(self, status, kind, body, more=()):
+    def send(self, status: int, kind: str, body: bytes, more: Iterable[tuple[str, str]] = ()) -> None:
         self.send_response(status)
         self.send_header("Content-Type", kind)
         self.send_header("Content-Length", str(len(body)))
@@ -70,20 +80,20 @@ class Answer(http.server.BaseHTTPRequestHandler):
         if self.command != "HEAD":
             self.wfile.write(body)
 
-    def send_data(self, value):
+    def send_data(self, value: object) -> None:
         self.send(200, KINDS[".json"], json.dumps(value).encode())
 
-    def send_wrong(self, status, word):
+    def send_wrong(self, status: int, word: str) -> None:
         self.send(status, KINDS[".json"], json.dumps({"wrong": word}).encode())
 
-    def refuse(self):
+    def refuse(self) -> None:
         """The same to all who may not ask, whatever they asked for."""
         self.close_connection = True
         self.send(403, "text/plain; charset=utf-8", (NOT_HERE + "\n").encode())
 
     do_PUT = do_DELETE = do_PATCH = do_OPTIONS = do_TRACE = do_CONNECT = refuse
 
-    def send_file(self, folder, name):
+    def send_file(self, folder: str, name: str) -> None:
         """A file of a folder, but none outside of it."""
         path = os.path.realpath(os.path.join(folder, name))
         inside = path.startswith(os.path.realpath(folder) + os.sep) or os.path.realpath(folder) == os.path.dirname(path)
@@ -93,7 +103,7 @@ class Answer(http.server.BaseHTTPRequestHandler):
         with open(path, "rb") as file:
             return self.send(200, kind, file.read())
 
-    def send_page(self, more=()):
+    def send_page(self, more: Iterable[tuple[str, str]] = ()) -> None:
         """The page, with the token for its requests and the text field that there is."""
         with open(os.path.join(WEB, "look.html"), encoding="utf-8") as file:
             page = file.read()
@@ -102,7 +112,7 @@ class Answer(http.server.BaseHTTPRequestHandler):
         page = page.replace("{token}", self.guard.token).replace("{field}", field).replace("{version}", version())
         self.send(200, KINDS[".html"], page.encode(), more)
 
-    def opens(self):
+    def opens(self) -> bool:
         """Whether this request opens the page by the key, which is spent then; a browser that was let in already needs none."""
         address = urllib.parse.urlsplit(self.path)
         if self.command != "GET" or address.path != "/" or not address.query.startswith("key=") or not self.guard.takes(address.query[4:]):
@@ -110,7 +120,7 @@ class Answer(http.server.BaseHTTPRequestHandler):
         say("opened; in another browser once more: %s" % self.guard.address())
         return True
 
-    def answered(self, answer):
+    def answered(self, answer: Callable[[], None]) -> None:
         """Answers a request, whatever becomes of it."""
         try:
             return answer()
@@ -127,12 +137,12 @@ class Answer(http.server.BaseHTTPRequestHandler):
             say("an answer to the page failed: %r" % error)
             return self.send_wrong(500, "tools/look failed here, and goes on: %s" % type(error).__name__)
 
-    def do_GET(self):
+    def do_GET(self) -> None:
         self.answered(self.get_asked)
 
     do_HEAD = do_GET
 
-    def get_asked(self):
+    def get_asked(self) -> None:
         if not self.is_from_here():
             return self.refuse()
         if not self.guard.has_cookie(self.headers.get("Cookie")):
@@ -144,11 +154,11 @@ class Answer(http.server.BaseHTTPRequestHandler):
         self.asked = dict(urllib.parse.parse_qsl(address.query))
         return self.get(place, name)
 
-    def number(self, name):
+    def number(self, name: str) -> int | None:
         """A number of the request, or None where it has none of this name."""
         return int(self.asked[name]) if self.asked.get(name) else None
 
-    def get(self, place, name):
+    def get(self, place: str, name: str) -> None:
         if place == "":
             self.send_page()
         elif place == "web":
@@ -177,21 +187,21 @@ class Answer(http.server.BaseHTTPRequestHandler):
         else:
             self.send_wrong(404, "there is nothing here")
 
-    def send_picture(self):
+    def send_picture(self) -> None:
         """The segments as the program lists them, behind a line that says of which lattice and level they are."""
         reply, lattice, level = self.desk.picture(self.number("text"), self.number("level"), self.number("line"), self.number("most") or 0)
         self.send(200, "text/plain; charset=utf-8", ("%s %d\n" % (lattice, level)).encode() + reply)
 
-    def send_export(self, kind):
+    def send_export(self, kind: str) -> None:
         name = "%s.%s" % (os.path.splitext(self.desk.script.name)[0] or "picture", "txt" if kind == "segments" else kind)
         as_file = "attachment; filename=\"%s\"" % re.sub(r"[^\w.-]", "_", name, flags=re.A)
         data, told = self.desk.export(kind, self.number("level"), self.number("line"), self.asked)
         self.send(200, EXPORTS[kind], data, [("Content-Disposition", as_file), *([("X-Told", told)] if told else [])])
 
-    def do_POST(self):
+    def do_POST(self) -> None:
         self.answered(self.post_asked)
 
-    def post_asked(self):
+    def post_asked(self) -> None:
         if not self.is_from_here() or not self.guard.has_cookie(self.headers.get("Cookie")) or not self.guard.has_token(self.headers.get("X-Token")):
             return self.refuse()
         length = self.headers.get("Content-Length", "")
@@ -207,11 +217,11 @@ class Answer(http.server.BaseHTTPRequestHandler):
             return self.send_wrong(404, "there is nothing here")
         return self.send_data(deeds[self.path](asked))
 
-    def body(self, length):
+    def body(self, length: int) -> bytes:
         """A request's body, which is waited for some seconds, and not for longer the more slowly it comes."""
         parts, until = [], time.monotonic() + LONGEST_BODY
         while length:
-            part = self.rfile.read1(min(length, 1 << 16))
+            part = self.rfile.read1(min(length, 1 << 16))  # type: ignore[attr-defined]
             if not part:
                 raise ConnectionError
             if time.monotonic() > until:
@@ -220,11 +230,11 @@ class Answer(http.server.BaseHTTPRequestHandler):
             length -= len(part)
         return b"".join(parts)
 
-    def log_message(self, *words):
+    def log_message(self, *words: object) -> None:
         pass
 
 
-def version():
+def version() -> str:
     with open(os.path.join(os.path.dirname(os.path.dirname(WEB)), "VERSION")) as file:
         return file.read().strip()
 
@@ -234,24 +244,24 @@ class Server(http.server.ThreadingHTTPServer):
     daemon_threads = True
     request_queue_size = 256
 
-    def __init__(self, *words):
-        self.open = set()
+    def __init__(self, *words: Any) -> None:
+        self.open: set[Any] = set()
         super().__init__(*words)
 
-    def verify_request(self, request, address):
+    def verify_request(self, request: Any, address: Any) -> bool:
         return len(self.open) < MOST_CONNECTIONS
 
-    def process_request(self, request, address):
+    def process_request(self, request: Any, address: Any) -> None:
         self.open.add(address)
         super().process_request(request, address)
 
-    def process_request_thread(self, request, address):
+    def process_request_thread(self, request: Any, address: Any) -> None:
         try:
             super().process_request_thread(request, address)
         finally:
             self.open.discard(address)
 
-    def handle_error(self, request, address):
+    def handle_error(self, request: Any, address: Any) -> None:
         # A tab that was closed doesn't wait for its answer.
         if not isinstance(sys.exc_info()[1], (ConnectionError, TimeoutError, socket.timeout)):
             say("an answer to the page failed: %r" % sys.exc_info()[1])

@@ -1,10 +1,17 @@
 """A running `lsys`, asked a line at a time, and how a session is brought to what a changed script says."""
+
+from __future__ import annotations
+
 import re
 import subprocess
 import time
+from collections.abc import Iterable, Sequence
+from typing import Any
 
 from replies import LONGEST_LINE, Lines, is_command, reply_from
 
+# What a line is about, as key_of tells it: a word, and a label, a table or the line where these are wanted.
+Key = tuple[str, Any]
 # What an edit of this word is worth again that a script no longer has. A version is never taken back.
 OPENING = {"axiom": b"axiom", "ignore": b"ignore", "schedule": b"schedule main", "seed": b"seed 0", "depth": b"depth 0",
            "lattice": b"lattice square", "lineage": b"lineage places"}
@@ -28,7 +35,7 @@ class Ended(Exception):
     """The program has ended, or was ended."""
 
 
-def key_of(line):
+def key_of(line: bytes) -> Key | None:
     """What a line is about: ("production", label), ("hom", label), ("own", table), (word, None) for the other edits and the queries,
     None for what depends on its place among the lines, and ("wrong", line) for what is no command."""
     if len(line) > LONGEST_LINE:
@@ -46,20 +53,20 @@ def key_of(line):
     return None if word == "drop" or is_step(line) else ("wrong", line)
 
 
-def is_step(line):
+def is_step(line: bytes) -> bool:
     """Whether a line is an undo or a redo."""
     return line.strip(b" \t") in STEPS
 
 
-def is_growth(line):
+def is_growth(line: bytes) -> bool:
     return line.split()[:1] == [b"growth"]
 
 
-def is_query(line):
+def is_query(line: bytes) -> bool:
     return (key_of(line) or ("",))[0] in QUERIES
 
 
-def as_reply(reply):
+def as_reply(reply: str) -> str:
     """A reply as a person sees it beside its line."""
     if reply.startswith("segments ") or reply.startswith("<svg "):
         return reply.split("\n", 1)[0]
@@ -71,17 +78,20 @@ def as_reply(reply):
 class Program:
     """One running program. A reply is told to its end by its first line, so none is waited for in vain."""
 
-    def __init__(self, words):
+    def __init__(self, words: Sequence[str]) -> None:
         self.running = subprocess.Popen(words, stdin=subprocess.PIPE, stdout=subprocess.PIPE)
-        self.lines, self.asking = Lines(self.next_line), None
+        assert self.running.stdin and self.running.stdout
+        self.input, self.output = self.running.stdin, self.running.stdout
+        self.lines = Lines(self.next_line)
+        self.asking: tuple[bytes, float] | None = None
 
-    def next_line(self):
-        line = self.running.stdout.readline()
+    def next_line(self) -> bytes:
+        line = self.output.readline()
         if not line.endswith(b"\n"):
             raise Ended
         return line
 
-    def ask(self, line):
+    def ask(self, line: bytes) -> str:
         """Sends a command and gives its reply, with what is asked and since when told in `asking` meanwhile. Behind a growth one is sent whose
         reply is a refusal, by which the end is known."""
         self.asking = line, time.monotonic()
@@ -90,11 +100,11 @@ class Program:
         finally:
             self.asking = None
 
-    def reply_to(self, line):
+    def reply_to(self, line: bytes) -> str:
         probe = NO_COMMAND if is_growth(line) else b""
         try:
-            self.running.stdin.write(line + b"\n" + probe)
-            self.running.stdin.flush()
+            self.input.write(line + b"\n" + probe)
+            self.input.flush()
         except OSError:
             raise Ended from None
         reply = b"".join(reply_from(self.lines)).decode("latin-1")
@@ -102,12 +112,12 @@ class Program:
             self.lines.next()
         return reply
 
-    def has_ended(self):
+    def has_ended(self) -> bool:
         return self.running.poll() is not None
 
-    def close(self):
+    def close(self) -> None:
         """Lets the program end by itself, and waits for it."""
-        for pipe in (self.running.stdin, self.running.stdout):
+        for pipe in (self.input, self.output):
             try:
                 pipe.close()
             except OSError:
@@ -120,71 +130,85 @@ class Session:
     that were sent for the last change with their replies, `pictures` those that queries within the script had, by the number of
     the command, and `held` each edit that was accepted last for what it is about, rules in the order in which they stand."""
 
-    def __init__(self, words):
-        self.words, self.program = words, None
-        self.commands, self.replies, self.sent = [], [], []
+    def __init__(self, words: Sequence[str]) -> None:
+        self.words = words
+        self.program: Program | None = None
+        self.commands: list[bytes] = []
+        self.replies: list[str] = []
+        self.sent: list[tuple[str, str]] = []
         self.forget()
         self.forget_pictures()
 
-    def forget(self):
-        self.held, self.told, self.tried, self.answers = {}, {}, {}, {}
+    def forget(self) -> None:
+        self.held: dict[Key, bytes] = {}
+        self.told: dict[Key | None, str] = {}
+        self.tried: dict[Key | None, bytes] = {}
+        self.answers: dict[tuple[int, bytes], str] = {}
         self.standing, self.is_exact = 0, True
-        self.past, self.future = [], []
+        self.past: list[dict[Key, bytes]] = []
+        self.future: list[dict[Key, bytes]] = []
 
-    def forget_pictures(self):
-        self.pictures, self.kept_of_pictures = {}, 0
+    def forget_pictures(self) -> None:
+        self.pictures: dict[int, str] = {}
+        self.kept_of_pictures = 0
 
-    def start(self):
+    def start(self) -> None:
         self.close()
         self.program = Program(self.words)
         self.forget()
 
-    def close(self):
+    def at_work(self) -> Program:
+        """The program, which has to run."""
+        if self.program is None:
+            raise Ended
+        return self.program
+
+    def close(self) -> None:
         if self.program:
             self.program.close()
             self.program = None
 
-    def interrupt(self):
+    def interrupt(self) -> None:
         """Ends the program whatever it does; who waits for its reply is told so."""
         program = self.program
         if program:
             program.running.kill()
 
-    def asking(self):
+    def asking(self) -> tuple[bytes, float] | None:
         """The line that is being answered, and the moment from which on, or None."""
         program = self.program
         return program.asking if program else None
 
-    def depth(self):
+    def depth(self) -> int:
         """The depth of the system, whatever level is being looked at."""
         line = self.held.get(("depth", None))
         return int(line.split()[1]) if line else 0
 
-    def lattice(self):
+    def lattice(self) -> str:
         line = self.held.get(("lattice", None))
         return line.split()[1].decode() if line else "square"
 
-    def stand_at(self, level=None):
+    def stand_at(self, level: int | None = None) -> None:
         """Lets the program derive no further than to this level, until it is asked for another one or an edit comes."""
         wanted = self.depth() if level is None else min(level, self.depth())
         if self.program and self.standing != wanted:
             self.program.ask(b"depth %d" % wanted)
             self.standing = wanted
 
-    def answer(self, line):
+    def answer(self, line: bytes) -> str:
         """The reply to a query, which is asked once between edits. A picture is told by its segments."""
         words = b" ".join(line.split())
         asked = b"segments" if words in PICTURES else line
         if (self.standing, asked) not in self.answers:
             if sum(map(len, self.answers.values())) > MOST_KEPT:
                 self.answers = {}
-            self.answers[self.standing, asked] = self.program.ask(asked)
+            self.answers[self.standing, asked] = self.at_work().ask(asked)
         return self.answers[self.standing, asked]
 
-    def ask(self, line):
+    def ask(self, line: bytes) -> str:
         """Sends an edit, keeps what it changed, and gives the reply."""
         key = key_of(line)
-        reply = self.program.ask(line).rstrip("\n")
+        reply = self.at_work().ask(line).rstrip("\n")
         self.sent.append((line.decode("latin-1"), reply))
         self.told[key], self.tried[key] = reply, line
         if not reply.startswith("ok "):
@@ -199,20 +223,20 @@ class Session:
             self.standing = self.depth()
         return reply
 
-    def held_behind(self, key, line):
+    def held_behind(self, key: Key | None, line: bytes) -> dict[Key, bytes]:
         """What is held behind an accepted edit."""
         if key is not None:
             return {**self.held, key: line}
         label = line.split()[1].decode("latin-1")
-        return {key: kept for key, kept in self.held.items() if key[0] not in ("production", "hom") or key[1] != label}
+        return {about: kept for about, kept in self.held.items() if about[0] not in ("production", "hom") or about[1] != label}
 
-    def step(self, line):
+    def step(self, line: bytes) -> None:
         """Goes back or on to what was held."""
         left, gained = (self.past, self.future) if line.strip(b" \t") == b"undo" else (self.future, self.past)
         gained.append(self.held)
         self.held = left.pop()
 
-    def ask_in_turn(self, line):
+    def ask_in_turn(self, line: bytes) -> None:
         """Sends a line of the script at its place among the others, and keeps its reply."""
         if is_query(line):
             reply = self.answer(line)
@@ -223,7 +247,7 @@ class Session:
             reply = self.ask(line)
         self.replies.append(as_reply(reply))
 
-    def follow(self, commands):
+    def follow(self, commands: list[bytes]) -> str:
         """Brings the session to what the commands of a script say: by its changed lines where that is enough, and else from its
         beginning. Says in a word which of the two it was. Raises Ended where the program ends in between. An undo goes back over the
         edits of the program, so a script with one is always run from its beginning."""
@@ -241,7 +265,7 @@ class Session:
         self.from_the_beginning(commands)
         return "begun anew"
 
-    def goes_on(self, commands):
+    def goes_on(self, commands: list[bytes]) -> bool:
         """Asks the further ones of these commands where those before them have been asked already, and none behind them changed anything.
         Says whether that was so."""
         common = 0
@@ -256,11 +280,11 @@ class Session:
         self.commands = commands
         return True
 
-    def asked(self):
+    def asked(self) -> list[tuple[bytes, str]]:
         """The script's commands with their replies."""
         return list(zip(self.commands, self.replies))
 
-    def depends_on_places(self):
+    def depends_on_places(self) -> bool:
         """Whether a line of the script is refused for want of another one before it, or was taken for no command and is one: only the
         whole script is trusted then."""
         for line, reply in self.asked():
@@ -270,12 +294,12 @@ class Session:
                 return True
         return False
 
-    def is_kept(self, line):
+    def is_kept(self, line: bytes) -> bool:
         """Sends an edit. A refusal that the other edits may have caused says that it has to be tried from the beginning."""
         reply = self.ask(line)
         return reply.startswith(BY_ITSELF) or reply.startswith("ok ") and (key_of(line) or ("",))[0] != "wrong"
 
-    def replies_again(self, commands):
+    def replies_again(self, commands: list[bytes]) -> None:
         """The replies to commands whose edits have all been sent."""
         self.commands, self.replies = commands, []
         self.forget_pictures()
@@ -289,31 +313,32 @@ class Session:
                 self.is_exact &= self.told[key_of(line)].startswith("ok ")
                 self.replies.append(self.told[key_of(line)])
 
-    def from_the_beginning(self, commands):
+    def from_the_beginning(self, commands: list[bytes]) -> None:
         self.start()
         self.commands, self.replies, self.sent = commands, [], []
         self.forget_pictures()
         for line in commands:
             self.ask_in_turn(line)
 
-    def changes(self, commands):
+    def changes(self, commands: list[bytes]) -> list[bytes] | None:
         """The edits that make what is held to what these commands say, or None where only a new beginning does."""
-        keys = [key_of(line) for line in commands]
-        if self.depends_on_places() or not are_in_order(keys):
+        told = [(key_of(line), line) for line in commands]
+        about = [(key, line) for key, line in told if key is not None]
+        if self.depends_on_places() or len(about) < len(told) or not are_in_order([key for key, _ in about]):
             return None
-        edits = {key: line for key, line in zip(keys, commands) if key[0] not in QUERIES}
+        edits = {key: line for key, line in about if key[0] not in QUERIES}
         gone = [key for key, line in self.held.items() if key not in edits and line != opening_of(key)]
         if ("version", None) in gone or not self.rules_keep_their_order(edits):
             return None
-        back = sorted(map(opening_of, gone), key=lambda line: line.startswith(b"drop"))
+        back = sorted((line for line in map(opening_of, gone) if line is not None), key=lambda line: line.startswith(b"drop"))
         return back + [line for key, line in edits.items() if not self.stands(key, line)]
 
-    def stands(self, key, line):
+    def stands(self, key: Key, line: bytes) -> bool:
         """Whether this line was sent last of all about its key, and is held or was refused by itself."""
         # Of a line that was wrong and left the script meanwhile the reply is no longer known.
         return self.tried.get(key) == line and (self.held.get(key) == line or not self.told.get(key, "ok ").startswith("ok "))
 
-    def rules_keep_their_order(self, edits):
+    def rules_keep_their_order(self, edits: Iterable[Key]) -> bool:
         """Whether rules that stay do so in their order, with those that are new behind them."""
         for kind in ("production", "hom"):
             stays = [key for key in self.held if key[0] == kind and key in edits]
@@ -323,7 +348,7 @@ class Session:
         return True
 
 
-def opening_of(key):
+def opening_of(key: Key) -> bytes | None:
     """The edit that takes back what a key is about."""
     word, name = key
     if word == "own":
@@ -331,18 +356,16 @@ def opening_of(key):
     return OPENING.get(word) if name is None else b"drop " + name.encode("latin-1")
 
 
-def are_in_order(keys):
+def are_in_order(keys: Sequence[Key]) -> bool:
     """Whether commands about these keys mean the same by their last edit of each as one after another: no two are about the same, queries
     come last, and so do edits that need others."""
-    if None in keys:
-        return False
     found = [key for key in keys if key[0] != "wrong"]
     edits = [key for key in found if key[0] not in QUERIES]
     labels = [name for word, name in edits if word in ("production", "hom")]
     return edits == found[:len(edits)] and len(set(edits)) == len(edits) and len(set(labels)) == len(labels) and needs_come_first(edits)
 
 
-def needs_come_first(edits):
+def needs_come_first(edits: list[Key]) -> bool:
     """Whether the version is set first, tables are named behind the rules, and the depth behind all that levels come from: no line before
     `depth` derives anything then, and none is refused for want of a later one."""
     words = [word for word, _ in edits]
@@ -352,7 +375,7 @@ def needs_come_first(edits):
     return "version" not in words[1:] and (not rules or not named or rules[-1] < named[0]) and set(behind_depth) <= {"lattice", "hom"}
 
 
-def commands_before_end(lines):
+def commands_before_end(lines: Iterable[bytes]) -> list[tuple[int, bytes]]:
     """The commands of a script's lines with their places, up to `quit`, behind which nothing is a command."""
     found = []
     for place, line in enumerate(lines):

@@ -2,10 +2,15 @@
 by a program of its own, as many at once as there are processors: it is brought to the script first and to the variant then, so that
 `M of T` tells how much of the variant was asked anew.
 """
+
+from __future__ import annotations
+
 import os
 import re
 import threading
+from collections.abc import Iterator
 from concurrent.futures import ThreadPoolExecutor
+from typing import Any
 from xml.sax.saxutils import escape
 
 from desk import as_bytes, counts
@@ -23,12 +28,12 @@ BEHIND_COLON = ("production", "hom", "ignoring", "consider")
 CELL, GAP, CAPTION, LINE = 200, 12, 40, 15
 
 
-def word_of(line):
+def word_of(line: str) -> str:
     found = None if line.startswith(";") else WORD.match(line)
     return found.group(1) if found else ""
 
 
-def numbers_of(line):
+def numbers_of(line: str) -> list[tuple[int, int]]:
     """The places of a line's numbers, each its begin and its end. Behind some words there are names, to which other digits belong."""
     if line.startswith(";"):
         return []
@@ -40,7 +45,7 @@ def numbers_of(line):
     return places + [(names + match.start(), names + match.end()) for match in behind if match.group()[0].isdigit()]
 
 
-def with_edit(lines, edit):
+def with_edit(lines: list[str], edit: str) -> list[str]:
     """The lines with an edit in the place of the last one of its word, or else before the queries at the end."""
     word = word_of(edit)
     place = max((place for place, line in enumerate(lines) if word_of(line) == word), default=None)
@@ -55,12 +60,12 @@ def with_edit(lines, edit):
 class Axis:
     """What varies: a seed, a depth, or number `place` of line `line`, both from 0; and its values."""
 
-    def __init__(self, kind, values, line=0, place=0):
+    def __init__(self, kind: str, values: list[int], line: int = 0, place: int = 0) -> None:
         self.kind, self.values, self.line, self.place = kind, values, line, place
         if not values:
             raise Unfit("from %s there is no way to the last value" % kind)
 
-    def put(self, lines, value):
+    def put(self, lines: list[str], value: int) -> list[str]:
         """The lines with this value."""
         if self.kind != "number":
             return with_edit(lines, "%s %d" % (self.kind, value))
@@ -70,11 +75,11 @@ class Axis:
         begin, end = numbers[self.place]
         return lines[:self.line] + [lines[self.line][:begin] + str(value) + lines[self.line][end:]] + lines[self.line + 1:]
 
-    def told(self, value):
+    def told(self, value: int) -> str:
         return "%s %d" % (self.kind if self.kind != "number" else "line %d:" % (self.line + 1), value)
 
 
-def steps(first, last, step):
+def steps(first: int, last: int, step: int) -> list[int]:
     """The values from the first to the last one."""
     if step < 1 or last < first:
         raise Unfit("values go up from the first to the last one, by a step of at least 1")
@@ -83,7 +88,7 @@ def steps(first, last, step):
     return list(range(first, last + 1, step))
 
 
-def axis_of_word(word):
+def axis_of_word(word: str) -> Axis:
     """An axis as the words of a tool give it."""
     found = AXIS.match(word)
     if not found:
@@ -94,7 +99,7 @@ def axis_of_word(word):
     return Axis(found.group(1), values)
 
 
-def axis_of(asked):
+def axis_of(asked: dict[str, Any]) -> Axis:
     """An axis as a page asks for it."""
     kind, numbers = asked["kind"], [asked[name] for name in ("from", "to", "step")]
     if kind not in ("seed", "depth", "number") or not all(type(number) is int for number in numbers):
@@ -105,24 +110,24 @@ def axis_of(asked):
 class Cell:
     """One variant: its lines, what is told of it, and, once it is drawn, its counts, its picture and what was refused."""
 
-    def __init__(self, lines, told):
+    def __init__(self, lines: list[str], told: list[str]) -> None:
         self.lines, self.told, self.counts = lines, told, [0, 0]
         self.lattice, self.level, self.reply, self.refused, self.done = "square", 0, "", "", threading.Event()
 
-    def has_picture(self):
+    def has_picture(self) -> bool:
         return self.reply.startswith("segments ")
 
-    def caption(self):
+    def caption(self) -> list[str]:
         """What stands below the picture."""
         many = self.reply.split("\n", 1)[0].split(" ")[-1] if self.has_picture() else "0"
-        return [", ".join(self.told), self.refused or "%d of %d asked anew, %s lines" % (*self.counts, many)]
+        return [", ".join(self.told), self.refused or "%d of %d asked anew, %s lines" % (self.counts[0], self.counts[1], many)]
 
 
-def cells_of(lines, axes):
+def cells_of(lines: list[str], axes: list[Axis]) -> list[Cell]:
     """The cells of a grid, rows of the first axis below each other along the second one."""
     if not 1 <= len(axes) <= 2:
         raise Unfit("a sheet has one or two things that vary")
-    rows = axes[1].values if len(axes) == 2 else [None]
+    rows: list[int | None] = list(axes[1].values) if len(axes) == 2 else [None]
     if len(rows) * len(axes[0].values) > MOST_CELLS:
         raise Unfit("a sheet has at most %d pictures" % MOST_CELLS)
     cells = []
@@ -132,23 +137,24 @@ def cells_of(lines, axes):
     return cells
 
 
-def commands_of(lines):
+def commands_of(lines: list[str]) -> list[bytes]:
     return [line for _, line in commands_before_end(lines_of(as_bytes("\n".join(lines))))]
 
 
 class Sheet:
     """The variants of a script, drawn in the background."""
 
-    def __init__(self, words, lines, axes):
+    def __init__(self, words: list[str], lines: list[str], axes: list[Axis]) -> None:
         self.words, self.lines = words, lines
         self.columns = len(axes[0].values)
         self.cells = cells_of(lines, axes)
-        self.running, self.lock, self.is_stopped = set(), threading.Lock(), False
+        self.lock, self.is_stopped = threading.Lock(), False
+        self.running: set[Session] = set()
         self.pool = ThreadPoolExecutor(os.cpu_count() or 1)
         for cell in self.cells:
             self.pool.submit(self.draw, cell)
 
-    def draw(self, cell):
+    def draw(self, cell: Cell) -> None:
         """Draws a cell, by a program of its own."""
         session = Session(self.words)
         with self.lock:
@@ -166,7 +172,7 @@ class Sheet:
                 self.running.discard(session)
             cell.done.set()
 
-    def follow(self, session, cell):
+    def follow(self, session: Session, cell: Cell) -> None:
         session.follow(commands_of(self.lines))
         before = counts(session.sent)
         session.follow(commands_of(cell.lines))
@@ -177,7 +183,7 @@ class Sheet:
         cell.reply = session.answer(b"segments")
         cell.refused = refused[0] if refused else "" if cell.has_picture() else cell.reply.rstrip("\n")
 
-    def stop(self):
+    def stop(self) -> None:
         """Ends what is still being drawn."""
         self.is_stopped = True
         with self.lock:
@@ -185,11 +191,11 @@ class Sheet:
                 session.interrupt()
         self.pool.shutdown(wait=False)
 
-    def wait(self):
+    def wait(self) -> None:
         self.pool.shutdown()
 
 
-def told_of(cell, lines):
+def told_of(cell: Cell, lines: list[str]) -> dict[str, Any]:
     """What a page is told of a cell: its values and the lines that it has in the place of some of the script's."""
     least, first, last = min(len(lines), len(cell.lines)), 0, 0
     while first < least and lines[first] == cell.lines[first]:
@@ -199,7 +205,7 @@ def told_of(cell, lines):
     return {"told": cell.told, "first": first, "removed": len(lines) - first - last, "lines": cell.lines[first:len(cell.lines) - last]}
 
 
-def sheet_svg(sheet):
+def sheet_svg(sheet: Sheet) -> Iterator[str]:
     """The lines of one SVG with all pictures, each as tools/export draws it alone, and its caption."""
     rows = (len(sheet.cells) + sheet.columns - 1) // sheet.columns
     wide, high = sheet.columns * (CELL + GAP) + GAP, rows * (CELL + CAPTION + GAP) + GAP

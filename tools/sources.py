@@ -1,9 +1,12 @@
 """The crates' files as tools read them: their parts, their clauses, the names that they define and use, and the functions in them."""
+
+from __future__ import annotations
+
 import os
 import re
 from collections import Counter, defaultdict
+from collections.abc import Iterator
 from dataclasses import dataclass
-from typing import Dict, Iterator, List, Optional, Set, Tuple
 
 from programs import TOP
 
@@ -39,7 +42,7 @@ class Function:
     lines: int
 
 
-def crates() -> List[str]:
+def crates() -> list[str]:
     """The crates' names, in the order of crates.txt."""
     with open(os.path.join(TOP, "crates.txt"), encoding="utf-8") as file:
         return [line.split(":")[0].split()[0] for line in file if ":" in line and not line.startswith("#")]
@@ -50,7 +53,7 @@ def near(path: str) -> str:
     return os.path.relpath(path, TOP)
 
 
-def texts(crate: str, part: str, end: str) -> Iterator[Tuple[str, str]]:
+def texts(crate: str, part: str, end: str) -> Iterator[tuple[str, str]]:
     """The path and the text of each file of a part of a crate."""
     for folder, _, names in sorted(os.walk(os.path.join(CRATES, crate, part))):
         for name in sorted(names):
@@ -108,7 +111,7 @@ def parameters_at(text: str, place: int) -> int:
     return count
 
 
-def body_lines(lines: List[str], first: int, indent: str) -> int:
+def body_lines(lines: list[str], first: int, indent: str) -> int:
     """How many lines the body of a function has that begins at a line, from the one with its brace to the one that closes it; 0 where it
     has none."""
     for number in range(first, len(lines)):
@@ -130,16 +133,16 @@ def functions_in(path: str, text: str) -> Iterator[Function]:
         yield Function(path, first, found.group(2), many, body_lines(lines, first - 1, found.group(1)))
 
 
-def names_in(pattern: "re.Pattern[str]", path: str, text: str) -> Iterator[Tuple[str, Tuple[str, int]]]:
+def names_in(pattern: re.Pattern[str], path: str, text: str) -> Iterator[tuple[str, tuple[str, int]]]:
     """The names that a pattern finds in a text, each with its path and line."""
     for found in pattern.finditer(text):
         yield found.group(1), (path, line_of(text, found.start(1)))
 
 
-def defined(part: str = "specs") -> Dict[str, List[Tuple[str, int]]]:
+def defined(part: str = "specs") -> dict[str, list[tuple[str, int]]]:
     """Each exported name of the definitions, or each type of the sources, with the places where it is defined."""
     pattern, end = (DEFINED, ".antt") if part == "specs" else (TYPE, ".rt")
-    places: Dict[str, List[Tuple[str, int]]] = defaultdict(list)
+    places: dict[str, list[tuple[str, int]]] = defaultdict(list)
     for crate in crates():
         for path, text in texts(crate, part, end):
             for name, place in names_in(pattern, path, text):
@@ -155,13 +158,13 @@ def stem_of(name: str) -> str:
 def words_used(text: str) -> Iterator[str]:
     """The words of a text outside of comments and `use` lines, where a paragraph's own definitions are left out."""
     for paragraph in re.split(r"\n\s*\n", COMMENT.sub("", USE.sub("", text))):
-        own: Set[str] = {stem_of(name) for name in DEFINED.findall(paragraph)}
+        own: set[str] = {stem_of(name) for name in DEFINED.findall(paragraph)}
         yield from (word for word in WORD.findall(paragraph) if word not in own)
 
 
-def uses() -> "Counter[str]":
+def uses() -> Counter[str]:
     """How often each word is used in the crates' files."""
-    found: "Counter[str]" = Counter()
+    found: Counter[str] = Counter()
     for crate in crates():
         for part, end in PARTS:
             for _, text in texts(crate, part, end):
@@ -169,12 +172,12 @@ def uses() -> "Counter[str]":
     return found
 
 
-def lines_of(crate: str) -> List[int]:
+def lines_of(crate: str) -> list[int]:
     """How many lines its source, its definitions and its proofs have."""
     return [sum(text.count("\n") for _, text in texts(crate, part, end)) for part, end in PARTS]
 
 
-def crate_of(path: str) -> Optional[str]:
+def crate_of(path: str) -> str | None:
     """The crate of a file, or None."""
     parts = near(path).split(os.sep)
     return parts[1] if parts[0] == "crates" else None

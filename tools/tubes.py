@@ -3,15 +3,22 @@
 glTF is a JSON text and the bytes of numbers, written plainly here; nothing of Debian's writes it. Its second axis goes up, so what is up in
 space goes there. A ring of points stands around each place that a run goes through, and its middle is that place.
 """
+
+from __future__ import annotations
+
 import array
 import base64
-import collections
 import functools
 import json
 import math
 import struct
 import sys
+from collections.abc import Iterable, Sequence
+from typing import Any
 
+# A vector of three numbers, and a ring of them.
+Vector = tuple[float, ...]
+Ring = tuple[Vector, ...]
 SIDES = 8
 # Numbers of a ring differ by less than this where they mean the same.
 NEARLY = 1e-9
@@ -20,36 +27,36 @@ FLOAT, NUMBER, POINTS, TRIANGLES = 5126, 5125, 34962, 34963
 RADIUS = 1 / 20
 
 
-def dot(one, other):
+def dot(one: Vector, other: Vector) -> float:
     return one[0] * other[0] + one[1] * other[1] + one[2] * other[2]
 
 
-def cross(one, other):
+def cross(one: Vector, other: Vector) -> Vector:
     return one[1] * other[2] - one[2] * other[1], one[2] * other[0] - one[0] * other[2], one[0] * other[1] - one[1] * other[0]
 
 
-def scaled(vector, factor):
+def scaled(vector: Vector, factor: float) -> Vector:
     return vector[0] * factor, vector[1] * factor, vector[2] * factor
 
 
-def plus(one, other):
+def plus(one: Vector, other: Vector) -> Vector:
     return one[0] + other[0], one[1] + other[1], one[2] + other[2]
 
 
-def rounded(vector):
+def rounded(vector: Vector) -> Vector:
     """A vector whose small errors are gone, so that rings that mean the same are the same."""
     return tuple(round(value, 12) + 0.0 for value in vector)
 
 
 @functools.lru_cache(4096)
-def direction(away):
+def direction(away: Vector) -> Vector | None:
     """The unit vector of a way, or None of one without a length."""
     length = math.sqrt(dot(away, away))
     return rounded(scaled(away, 1 / length)) if length else None
 
 
 @functools.lru_cache(4096)
-def ring_around(along):
+def ring_around(along: Vector) -> Ring:
     """Unit vectors around a direction, to the left of each other."""
     other = (1.0, 0.0, 0.0) if abs(along[2]) > 0.9 else (0.0, 0.0, 1.0)
     right = cross(other, along)
@@ -59,7 +66,7 @@ def ring_around(along):
 
 
 @functools.lru_cache(4096)
-def bend(ring, along, after):
+def bend(ring: Ring, along: Vector, after: Vector) -> tuple[Ring, Ring]:
     """Where a tube of this ring is cut so that it goes on in another direction, and the ring of that one."""
     share = 1 + dot(along, after)
     cut = tuple(plus(vector, scaled(along, -dot(vector, after) / share)) for vector in ring)
@@ -67,7 +74,7 @@ def bend(ring, along, after):
 
 
 @functools.lru_cache(4096)
-def in_a_row(vectors):
+def in_a_row(vectors: Ring) -> tuple[float, ...]:
     return tuple(value for vector in vectors for value in vector)
 
 
@@ -78,28 +85,28 @@ SIDE = [corner for side in range(SIDES) for after in [(side + 1) % SIDES] for co
 class Mesh:
     """The points, what is outward at each, and the triangles of all tubes of one width."""
 
-    def __init__(self, radius):
+    def __init__(self, radius: float) -> None:
         self.radius = radius
         self.places, self.outward, self.triangles = array.array("f"), array.array("f"), array.array("I")
 
-    def ring(self, place, offsets, outward):
+    def ring(self, place: Vector, offsets: Ring, outward: Ring) -> int:
         """Puts a ring around a place, and gives the number of its first point."""
         first, radius = len(self.places) // 3, self.radius
         self.places.extend([at + radius * away for at, away in zip(place * SIDES, in_a_row(offsets))])
         self.outward.extend(in_a_row(outward))
         return first
 
-    def side(self, one, other):
+    def side(self, one: int, other: int) -> None:
         """The side of a tube between two rings."""
         firsts = one, other
         self.triangles.extend([firsts[ring] + side for ring, side in SIDE])
 
-    def cap(self, place, ring, along, is_end):
+    def cap(self, place: Vector, ring: Ring, along: Vector, is_end: bool) -> None:
         first = self.ring(place, ring, (along if is_end else scaled(along, -1),) * SIDES)
         for side in range(1, SIDES - 1):
             self.triangles.extend((first, first + side, first + side + 1) if is_end else (first, first + side + 1, first + side))
 
-    def tube(self, points, directions):
+    def tube(self, points: Sequence[Vector], directions: list[Vector]) -> None:
         """A tube along points, of which each goes on in a direction. It is cut where it would go straight back."""
         along = directions[0]
         ring = ring_around(along)
@@ -122,18 +129,21 @@ class Mesh:
             along, ring = after, turned
 
 
-def directions_of(points):
+def directions_of(points: Sequence[Vector]) -> list[Vector]:
     """The direction of each segment. One without a length goes on as the one before it, or as the first that has one."""
     found = [direction(rounded(plus(stop, scaled(start, -1)))) for start, stop in zip(points, points[1:])]
-    last = next((each for each in found if each), (0.0, 1.0, 0.0))
-    for number, each in enumerate(found):
-        last = found[number] = each or last
-    return found
+    known = [each for each in found if each is not None]
+    last: Vector = known[0] if known else (0.0, 1.0, 0.0)
+    directions = []
+    for each in found:
+        last = each or last
+        directions.append(last)
+    return directions
 
 
-def meshes_of(runs, step, is_upright):
+def meshes_of(runs: Iterable[tuple[int, list[Vector]]], step: float, is_upright: bool) -> dict[int, Mesh]:
     """The meshes by their widths. In space, the third axis goes up, and the second one away."""
-    meshes = collections.OrderedDict()
+    meshes: dict[int, Mesh] = {}
     for width, points in runs:
         mesh = meshes.setdefault(width, Mesh(width * step * RADIUS))
         points = [(x, z, -y) if is_upright else (x, y, z) for x, y, z in points]
@@ -145,10 +155,12 @@ def meshes_of(runs, step, is_upright):
 class Bytes:
     """The numbers of a file, and what the text tells of each part of them."""
 
-    def __init__(self):
-        self.data, self.views, self.accessors = [], [], []
+    def __init__(self) -> None:
+        self.data: list[bytes] = []
+        self.views: list[dict[str, Any]] = []
+        self.accessors: list[dict[str, Any]] = []
 
-    def put(self, numbers, kind, target, more):
+    def put(self, numbers: array.array[Any], kind: int, target: int, more: dict[str, Any]) -> int:
         """Puts a part, and gives its number."""
         if sys.byteorder == "big":
             numbers.byteswap()
@@ -158,14 +170,14 @@ class Bytes:
         self.accessors.append({"bufferView": len(self.views) - 1, "componentType": kind, **more})
         return len(self.accessors) - 1
 
-    def put_vectors(self, numbers, is_bounded):
+    def put_vectors(self, numbers: array.array[Any], is_bounded: bool) -> int:
         more = {"count": len(numbers) // 3, "type": "VEC3"}
         if is_bounded:
             more.update({word: [find(numbers[axis::3]) for axis in range(3)] for word, find in (("min", min), ("max", max))})
         return self.put(numbers, FLOAT, POINTS, more)
 
 
-def parts(runs, step, is_upright, kept):
+def parts(runs: Iterable[tuple[int, list[Vector]]], step: float, is_upright: bool, kept: dict[str, str]) -> tuple[dict[str, Any], bytes]:
     """The text of a file as a value, without the place of its numbers, and the numbers' bytes. `kept` is told with the scene."""
     found = Bytes()
     meshes = []
@@ -173,7 +185,7 @@ def parts(runs, step, is_upright, kept):
         attributes = {"POSITION": found.put_vectors(mesh.places, True), "NORMAL": found.put_vectors(mesh.outward, False)}
         triangles = found.put(mesh.triangles, NUMBER, TRIANGLES, {"count": len(mesh.triangles), "type": "SCALAR"})
         meshes.append({"name": "width_%d" % width, "primitives": [{"attributes": attributes, "indices": triangles, "material": 0}]})
-    text = {"asset": {"version": "2.0", "generator": "lsys"}, "scene": 0, "scenes": [{"name": kept["title"], "extras": kept}]}
+    text: dict[str, Any] = {"asset": {"version": "2.0", "generator": "lsys"}, "scene": 0, "scenes": [{"name": kept["title"], "extras": kept}]}
     if meshes:
         surface = {"baseColorFactor": [0.6, 0.6, 0.6, 1.0], "metallicFactor": 0.0, "roughnessFactor": 0.7}
         text["scenes"][0]["nodes"] = list(range(len(meshes)))
@@ -182,17 +194,17 @@ def parts(runs, step, is_upright, kept):
     return text, b"".join(found.data)
 
 
-def with_buffer(text, data, place):
+def with_buffer(text: dict[str, Any], data: bytes, place: dict[str, Any]) -> dict[str, Any]:
     return {**text, "buffers": [{"byteLength": len(data), **place}]} if data else text
 
 
-def text(told, data):
+def text(told: dict[str, Any], data: bytes) -> bytes:
     """The file as one text."""
     place = {"uri": "data:application/octet-stream;base64," + base64.b64encode(data).decode()}
     return json.dumps(with_buffer(told, data, place), indent=1).encode() + b"\n"
 
 
-def binary(told, data):
+def binary(told: dict[str, Any], data: bytes) -> bytes:
     """The file as bytes: the text and the numbers one behind the other."""
     words = json.dumps(with_buffer(told, data, {}), separators=(",", ":")).encode()
     words += b" " * (-len(words) % 4)

@@ -6,14 +6,18 @@ A library is used where a file of the crate's src/, specs/ or proofs/ names it. 
 named: it is read with that one, and its changes reach the crate in any case. A line names each library once, and crates that are there.
 The headings and crates of crates.txt are also those of the table of docs/DESIGN.md, in the same order.
 """
+
+from __future__ import annotations
+
 import os
 import re
 import sys
+from collections.abc import Iterable, Iterator, Mapping
 
 from programs import TOP
 
 
-def lines():
+def lines() -> Iterator[tuple[int, str, list[str]]]:
     """Each line's number, crate and libraries."""
     with open(os.path.join(TOP, "crates.txt")) as file:
         for number, line in enumerate(file, 1):
@@ -22,9 +26,9 @@ def lines():
                 yield number, name.split()[0], below.split()
 
 
-def words_of(crate):
+def words_of(crate: str) -> set[str]:
     """All names in a crate's own files, comments left out."""
-    words = set()
+    words: set[str] = set()
     for part, comment in (("src", "//"), ("specs", "-- "), ("proofs", "-- ")):
         for folder, _, files in os.walk(os.path.join(TOP, "crates", crate, part)):
             for file in files:
@@ -33,7 +37,7 @@ def words_of(crate):
     return words
 
 
-def stood_on(needs, names):
+def stood_on(needs: Mapping[str, list[str]], names: Iterable[str]) -> set[str]:
     """These libraries and all that they stand on."""
     found, rest = set(), list(names)
     while rest:
@@ -44,7 +48,7 @@ def stood_on(needs, names):
     return found
 
 
-def findings():
+def findings() -> Iterator[str]:
     """What is wrong, in a line each."""
     needs = {crate: below for _, crate, below in lines()}
     for number, crate, below in lines():
@@ -60,21 +64,21 @@ def findings():
                 yield "crates.txt:%d: %s doesn't use %s, nor does what it uses" % (number, crate, name)
 
 
-def headings_and_crates():
+def headings_and_crates() -> list[str]:
     """What crates.txt lists in order, behind its first line: headings, and names of crates."""
     with open(os.path.join(TOP, "crates.txt")) as file:
         texts = [line.strip() for line in file][1:]
     return [text[1:].strip().lower() if text.startswith("#") else text.partition(":")[0].split()[0] for text in texts if text]
 
 
-def headings_and_rows():
+def headings_and_rows() -> list[str]:
     """The same of the table of docs/DESIGN.md."""
     with open(os.path.join(TOP, "docs", "DESIGN.md"), encoding="utf-8") as file:
-        table = re.search(r"^\| Crate \|.*\n\|.*\n((?:\|.*\n)+)", file.read(), re.M).group(1)
-    return [re.sub(r"[*`]", "", line.split("|")[1]).strip().lower() for line in table.splitlines()]
+        tables = re.findall(r"^\| Crate \|.*\n\|.*\n((?:\|.*\n)+)", file.read(), re.M)
+    return [re.sub(r"[*`]", "", line.split("|")[1]).strip().lower() for line in tables[0].splitlines()]
 
 
-def disorder():
+def disorder() -> Iterator[str]:
     """Where the two orders part."""
     listed, rows = headings_and_crates(), headings_and_rows()
     for place, pair in enumerate(zip(listed + ["the end"], rows + ["the end"])):
@@ -83,7 +87,7 @@ def disorder():
             return
 
 
-def main():
+def main() -> int:
     if sys.argv[1:]:
         print(__doc__)
         return 0 if set(sys.argv[1:]) & {"-h", "--help"} else 2

@@ -1,12 +1,17 @@
 """What the page of `tools/look` asks for watching growth and comparing: which module drew a segment, sheets of variants, films of the
 levels, and what differs between two texts."""
+
+from __future__ import annotations
+
 import base64
 import difflib
 import os
 import re
 import threading
+from collections.abc import Sequence
+from typing import Any
 
-from desk import Wrong
+from desk import Desk, Wrong
 from film import MOST_LINES, Unmade, gif_of, single_of, svg_of
 from formats import Unfit
 from lineage import Lineage, Untold
@@ -24,12 +29,14 @@ class Watching:
     PLACES = ("module", "sheet", "film")
     DEEDS = ("/sheet", "/differ", "/gif")
 
-    def __init__(self, desk):
+    def __init__(self, desk: Desk) -> None:
         self.desk, self.lock = desk, threading.Lock()
-        self.lineage, self.system = None, None
-        self.sheet, self.number = None, 0
+        self.lineage: Lineage | None = None
+        self.system: list[str] = []
+        self.sheet: Sheet | None = None
+        self.number = 0
 
-    def get(self, answer, place, name):
+    def get(self, answer: Any, place: str, name: str) -> None:
         if place == "module":
             answer.send_data(self.module(answer.number("text"), answer.number("level"), answer.number("segment")))
         elif place == "sheet":
@@ -39,18 +46,18 @@ class Watching:
             as_file = "attachment; filename=\"%s\"" % re.sub(r"[^\w.-]", "_", title, flags=re.A)
             answer.send(200, KINDS[name], body, [("Content-Disposition", as_file)])
 
-    def post(self, path, asked):
+    def post(self, path: str, asked: dict[str, Any]) -> dict[str, Any]:
         return {"/sheet": self.begin_sheet, "/differ": self.differ, "/gif": self.gif}[path](asked)
 
-    def module(self, text, level, segment):
+    def module(self, text: int | None, level: int | None, segment: int | None) -> dict[str, Any]:
         """What is told of the module that drew a segment of a level."""
         desk = self.desk
         with desk.changed:
             desk.has_text(text)
             reply, depth, words = desk.segments(level), desk.session.depth(), desk.session.words
-            shown = desk.from_program(lambda: desk.session.program.ask(b"show")).rstrip("\n").split("\n")
+            shown = desk.from_program(lambda: desk.session.at_work().ask(b"show")).rstrip("\n").split("\n")
         count = int(reply.split("\n", 1)[0].split()[1]) if reply.startswith("segments ") else 0
-        if not 0 <= segment < count:
+        if segment is None or not 0 <= segment < count:
             raise Wrong("there is no such line in the picture", 404)
         with self.lock:
             try:
@@ -58,20 +65,20 @@ class Watching:
             except Untold as untold:
                 return {"untold": str(untold)}
 
-    def of_system(self, shown, words):
+    def of_system(self, shown: list[str], words: Sequence[str]) -> Lineage:
         """The lineage of a system, which is kept until another one is asked for."""
         system = [line for line in shown if not line.startswith("depth ")]
-        if system != self.system:
+        if self.lineage is None or system != self.system:
             self.close_lineage()
             self.lineage, self.system = Lineage(words, shown), system
         return self.lineage
 
-    def close_lineage(self):
+    def close_lineage(self) -> None:
         if self.lineage:
             self.lineage.close()
-        self.lineage, self.system = None, None
+        self.lineage, self.system = None, []
 
-    def begin_sheet(self, asked):
+    def begin_sheet(self, asked: dict[str, Any]) -> dict[str, Any]:
         """Begins a sheet of the script as it is now, and ends the one before."""
         with self.desk.changed:
             self.desk.has_text(asked["text"])
@@ -83,23 +90,23 @@ class Watching:
             if not asked["axes"]:
                 return {"sheet": 0, "columns": 0, "cells": []}
             try:
-                self.sheet = Sheet(words, lines, [axis_of(axis) for axis in asked["axes"]])
+                sheet = self.sheet = Sheet(words, lines, [axis_of(axis) for axis in asked["axes"]])
             except Unfit as unfit:
                 raise Wrong(str(unfit), 400) from None
             self.number += 1
-            return {"sheet": self.number, "columns": self.sheet.columns, "cells": [told_of(cell, lines) for cell in self.sheet.cells]}
+            return {"sheet": self.number, "columns": sheet.columns, "cells": [told_of(cell, lines) for cell in sheet.cells]}
 
-    def cell(self, number, place):
+    def cell(self, number: int | None, place: int | None) -> bytes:
         """A cell's picture once it is drawn: a line with lattice, level, counts and whether it is done, and behind it the program's reply."""
         with self.lock:
-            if number != self.number or not self.sheet or not 0 <= place < len(self.sheet.cells):
+            if number != self.number or not self.sheet or place is None or not 0 <= place < len(self.sheet.cells):
                 raise Wrong("there is no such sheet any more", 404)
             cell = self.sheet.cells[place]
         done = cell.done.wait(LONGEST_WAIT)
-        head = "%s %d %d %d %s\n" % (cell.lattice, cell.level, *cell.counts, "done" if done else "waits")
+        head = "%s %d %d %d %s\n" % (cell.lattice, cell.level, cell.counts[0], cell.counts[1], "done" if done else "waits")
         return (head + (cell.reply if cell.has_picture() else (cell.refused or "no picture") + "\n")).encode("latin-1", "replace")
 
-    def levels(self):
+    def levels(self) -> list[str]:
         """The pictures of all levels, as the program lists them."""
         desk, found, lines = self.desk, [], 0
         for level in range(desk.session.depth() + 1):
@@ -112,7 +119,7 @@ class Watching:
             found.append(reply)
         return found
 
-    def film(self, kind, text, pace):
+    def film(self, kind: str, text: int | None, pace: int) -> tuple[bytes, str]:
         """All levels as one file, with its name."""
         desk = self.desk
         if kind not in KINDS:
@@ -127,7 +134,7 @@ class Watching:
         replies = [[place + 1, reply] for place, reply in state["replies"]]
         return single_of(stem, script, replies, levels, lattice, pace).encode("utf-8", "replace"), stem + ".html"
 
-    def gif(self, asked):
+    def gif(self, asked: dict[str, Any]) -> dict[str, Any]:
         """A GIF of the frames that a page drew."""
         frames = [base64.b64decode(frame, validate=True) for frame in asked["frames"]]
         if not 1 <= len(frames) <= MOST_FRAMES or not all(frame.startswith(b"\x89PNG\r\n\x1a\n") for frame in frames):
@@ -137,7 +144,7 @@ class Watching:
         except Unmade as unmade:
             raise Wrong(str(unmade), 501) from None
 
-    def differ(self, asked):
+    def differ(self, asked: dict[str, Any]) -> dict[str, Any]:
         """What differs between two texts: their lines in order, each with what becomes of it: ' ' stays, '-' went, '+' came."""
         first, second = asked["first"], asked["second"]
         if not all(isinstance(line, str) for line in first + second):
@@ -153,7 +160,7 @@ class Watching:
                 told += [["+", 0, c + place + 1, line] for place, line in enumerate(second[c:d])]
         return {"lines": told}
 
-    def stop(self):
+    def stop(self) -> None:
         """Ends what was begun here."""
         with self.lock:
             if self.sheet:
