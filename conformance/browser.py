@@ -1,4 +1,7 @@
 """A headless browser, driven by chromedriver (in Debian: chromium-driver) with the standard library alone."""
+
+from __future__ import annotations
+
 import base64
 import json
 import os
@@ -8,6 +11,8 @@ import tempfile
 import time
 import urllib.error
 import urllib.request
+from collections.abc import Callable, Sequence
+from typing import Any
 
 from patience import PATIENCE, waited
 
@@ -19,7 +24,7 @@ LONGEST = 10 * PATIENCE
 ELEMENT = "element-6066-11e4-a52e-4f735466cecf"
 
 
-def is_there():
+def is_there() -> bool:
     """Whether there is a driver. Nothing is installed."""
     return bool(shutil.which("chromedriver"))
 
@@ -27,20 +32,21 @@ def is_there():
 class Browser:
     """A session of the driver. Files that a page lets one have come into `folder`."""
 
-    def __init__(self):
+    def __init__(self) -> None:
         self.folder = tempfile.mkdtemp(prefix="lsys-browser-")
         self.driver = subprocess.Popen(["chromedriver", "--port=0"], stdout=subprocess.PIPE, stderr=subprocess.DEVNULL, text=True)
-        self.session = ""
+        assert self.driver.stdout
+        self.session, self.told = "", self.driver.stdout
         try:
             self.begin()
         except (OSError, RuntimeError):
             self.close()
             raise
 
-    def begin(self):
+    def begin(self) -> None:
         line = ""
         while "started successfully" not in line:
-            line = self.driver.stdout.readline()
+            line = self.told.readline()
             if not line:
                 raise OSError("chromedriver ended")
         self.address = "http://127.0.0.1:%s/session" % line.rstrip(".\n").split()[-1]
@@ -50,7 +56,7 @@ class Browser:
         self.session = "/" + value["sessionId"]
         self.tell("Emulation.setFocusEmulationEnabled", {"enabled": True})
 
-    def call(self, path, body=None, method=None):
+    def call(self, path: str, body: Any = None, method: str | None = None) -> Any:
         request = urllib.request.Request(self.address + self.session + path, method=method, data=None if body is None else json.dumps(body).encode(),
                                          headers={"Content-Type": "application/json"})
         try:
@@ -59,24 +65,24 @@ class Browser:
         except urllib.error.HTTPError as error:
             raise RuntimeError(json.load(error)["value"]["message"].split("\n")[0]) from None
 
-    def cookies(self):
+    def cookies(self) -> str:
         """The page's cookies, as a request has them."""
         return "; ".join("%s=%s" % (cookie["name"], cookie["value"]) for cookie in self.call("/cookie"))
 
-    def open(self, address):
+    def open(self, address: str) -> None:
         self.call("/url", {"url": address})
 
-    def run(self, script, *words):
+    def run(self, script: str, *words: Any) -> Any:
         return self.call("/execute/sync", {"script": script, "args": list(words)})
 
-    def element(self, selector):
+    def element(self, selector: str) -> str:
         return next(iter(self.call("/element", {"using": "css selector", "value": selector}).values()))
 
-    def click(self, selector):
+    def click(self, selector: str) -> Any:
         """Clicks an element, which is waited for where it isn't there yet."""
         return self.once(lambda: self.call("/element/%s/click" % self.element(selector), {}))
 
-    def once(self, deed):
+    def once(self, deed: Callable[[], Any]) -> Any:
         """Does something as soon as it can be done."""
         until = time.monotonic() + PATIENCE
         while True:
@@ -87,10 +93,10 @@ class Browser:
                     raise
                 time.sleep(0.1)
 
-    def act(self, kind, actions):
+    def act(self, kind: str, actions: list[dict[str, Any]]) -> None:
         self.call("/actions", {"actions": [{"type": kind, "id": kind, "actions": actions}]})
 
-    def keys(self, *names):
+    def keys(self, *names: str) -> None:
         """Presses keys one after another; those of `Control+z` together."""
         actions = []
         for name in names:
@@ -99,45 +105,45 @@ class Browser:
             actions += [{"type": "keyDown", "value": value} for value in values] + [{"type": "keyUp", "value": value} for value in reversed(values)]
         self.act("key", actions)
 
-    def type(self, text):
+    def type(self, text: str) -> None:
         self.keys(*text)
 
-    def drag(self, begin, steps, selector=None):
+    def drag(self, begin: Sequence[int], steps: Sequence[tuple[int, int]], selector: str | None = None) -> None:
         """Pulls the mouse from a place of the window, or from the middle of an element, by these steps."""
         origin = {ELEMENT: self.element(selector)} if selector else "viewport"
         actions = [{"type": "pointerMove", "x": begin[0], "y": begin[1], "origin": origin, "duration": 0}, {"type": "pointerDown", "button": 0}]
         actions += [{"type": "pointerMove", "x": x, "y": y, "origin": "pointer", "duration": 30} for x, y in steps]
         self.act("pointer", actions + [{"type": "pointerUp", "button": 0}])
 
-    def size(self, width, height):
+    def size(self, width: int, height: int) -> None:
         """Lets the page be as wide as that of a screen."""
         self.tell("Emulation.setDeviceMetricsOverride", {"width": width, "height": height, "deviceScaleFactor": 1, "mobile": width < 500})
 
-    def dark(self, is_dark):
+    def dark(self, is_dark: bool) -> None:
         self.tell("Emulation.setEmulatedMedia", {"features": [{"name": "prefers-color-scheme", "value": "dark" if is_dark else "light"}]})
 
-    def tell(self, command, words):
+    def tell(self, command: str, words: dict[str, Any]) -> None:
         self.call("/goog/cdp/execute", {"cmd": command, "params": words})
 
-    def picture_of_page(self, path):
+    def picture_of_page(self, path: str) -> None:
         with open(path, "wb") as file:
             file.write(base64.b64decode(self.call("/screenshot")))
 
-    def windows(self):
+    def windows(self) -> list[str]:
         return self.call("/window/handles")
 
-    def new_window(self):
+    def new_window(self) -> str:
         handle = self.call("/window/new", {"type": "tab"})["handle"]
         self.use(handle)
         return handle
 
-    def use(self, handle):
+    def use(self, handle: str) -> None:
         self.call("/window", {"handle": handle})
 
-    def close_window(self):
+    def close_window(self) -> None:
         self.call("/window", method="DELETE")
 
-    def prompted(self, text=None):
+    def prompted(self, text: str | None = None) -> None:
         """Answers a question of the browser's own."""
         if text is not None:
             self.once(lambda: self.call("/alert/text", {"text": text}))
@@ -145,7 +151,7 @@ class Browser:
         # The keys that opened it are held no longer.
         self.once(lambda: self.call("/actions", method="DELETE"))
 
-    def downloaded(self, name):
+    def downloaded(self, name: str) -> bytes:
         """The bytes of a file that a page let one have, once it is whole."""
         path = os.path.join(self.folder, name)
         if not waited(lambda: os.path.exists(path) and not any(part.endswith(".crdownload") for part in os.listdir(self.folder)), bool):
@@ -155,11 +161,11 @@ class Browser:
         os.unlink(path)
         return data
 
-    def errors(self):
+    def errors(self) -> list[str]:
         """What pages complained of since this was asked last."""
         return [entry["message"] for entry in self.call("/se/log", {"type": "browser"}) if entry["level"] == "SEVERE"]
 
-    def close(self):
+    def close(self) -> None:
         try:
             if self.session:
                 self.call("", method="DELETE")
@@ -167,5 +173,5 @@ class Browser:
             pass
         self.driver.terminate()
         self.driver.wait()
-        self.driver.stdout.close()
+        self.told.close()
         shutil.rmtree(self.folder, ignore_errors=True)

@@ -1,11 +1,14 @@
 """Trials of the page by itself: typing, dragged numbers, levels, several pictures, space, the plain field, places of refusals, and widths."""
+
+from __future__ import annotations
+
 import os
 import random
 
-from trial import ISLAND
+from trial import ISLAND, Trial
 
 
-def walk(trial):
+def walk(trial: Trial) -> None:
     """From the gallery to a file, by the page alone."""
     browser = trial.browser
     trial.begin(None)
@@ -28,8 +31,8 @@ def walk(trial):
     trial.shot("walk")
     browser.click("#export summary")
     browser.click("#export_svg")
-    file = browser.downloaded("koch_island.svg")
-    trial.told("an SVG comes", file.startswith(b"<svg ") and file.count(b"<path ") == 1, file[:200])
+    drawn = browser.downloaded("koch_island.svg")
+    trial.told("an SVG comes", drawn.startswith(b"<svg ") and drawn.count(b"<path ") == 1, drawn[:200])
     browser.keys("Control+s")
     browser.prompted("mine.lsys")
     trial.expect("the script is saved by a name", lambda page: page["kept"] == "saved" and page["name"] == "mine.lsys")
@@ -37,7 +40,7 @@ def walk(trial):
         trial.told("its file has the text", "F => F-F-F+FF" in file.read())
 
 
-def typing(trial):
+def typing(trial: Trial) -> None:
     """Lines that are typed, refused, mended and gone."""
     browser = trial.browser
     trial.begin(ISLAND)
@@ -76,7 +79,7 @@ def typing(trial):
     trial.is_quiet()
 
 
-def dragging(trial):
+def dragging(trial: Trial) -> None:
     """A number that is pulled."""
     browser = trial.browser
     trial.begin("axiom F(3)+F(2)\ndepth 0\nsvg\n")
@@ -98,7 +101,7 @@ def dragging(trial):
     trial.expect("of two hundred values the last one stays", lambda page: page["script"].split("\n")[1] == "axiom F(199)+F(2)" and not page["pending"])
 
 
-def levels(trial):
+def levels(trial: Trial) -> None:
     """Levels, depth and play."""
     browser = trial.browser
     trial.begin(ISLAND.replace("depth 2", "depth 3"))
@@ -130,7 +133,7 @@ def levels(trial):
     trial.expect("a long reply is cut beside its line", lambda page: page["lines"] == 16384 and any(reply.endswith(" ..") for reply in page["replies"]))
 
 
-def pictures(trial):
+def pictures(trial: Trial) -> None:
     """A script whose own lines ask for several pictures."""
     browser = trial.browser
     trial.begin(ISLAND.replace("depth 2", "depth 1\nsvg\ndepth 2"))
@@ -145,7 +148,7 @@ def pictures(trial):
     trial.expect("a line below the text that is no query changes nothing, and is told so", lambda page: "is no query, and nothing was changed" in page["answer"] and "seed" not in page["script"])
 
 
-def space(trial):
+def space(trial: Trial) -> None:
     """The picture in space."""
     browser = trial.browser
     trial.begin("lattice cubic\naxiom F&F^F+F\ndepth 0\nsvg\n")
@@ -169,7 +172,7 @@ def space(trial):
     trial.is_quiet()
 
 
-def plain(trial):
+def plain(trial: Trial) -> None:
     """The plain field."""
     browser = trial.browser
     trial.begin(ISLAND, "--plain")
@@ -189,7 +192,7 @@ def plain(trial):
     trial.expect("and by the page", lambda page: page["lines"] == 256 and page["kept"] == "saved")
 
 
-def places(trial):
+def places(trial: Trial) -> None:
     """A refusal within a line that takes several rows, and behind signs of several bytes."""
     browser = trial.browser
     trial.begin("axiom %s$F\n" % ("F" * 300))
@@ -207,6 +210,8 @@ def places(trial):
     trial.expect("changed", lambda page: page["lines"] == 1 and not page["pending"])
     browser.keys("Control+s")
     trial.expect("and stay what they are", lambda page: open(trial.path, "rb").read() == b"; \xff\xfe is no text\naxiom F\nsvg\n")
+
+
 # The replies that don't stand at the end of their line as the state has them.
 BESIDE = """
 const field = lookPage.field.field, wanted = new Map(lookPage.state.replies), wrong = [];
@@ -222,7 +227,7 @@ return {wrong: [...wrong, ...wanted], text: field.getValue(), known: lookPage.de
 """
 
 
-def shown(trial):
+def shown(trial: Trial) -> None:
     """Random changes in the text field: the server has the text, and each reply stands beside its line."""
     browser, choice = trial.browser, random.Random(3)
     trial.begin(ISLAND)
@@ -243,7 +248,7 @@ def shown(trial):
     trial.is_quiet()
 
 
-def widths(trial):
+def widths(trial: Trial) -> None:
     """The page at three widths, light and dark."""
     browser = trial.browser
     try:

@@ -1,4 +1,7 @@
 """Trials of the page: the files that it gives, which tools/export writes too, and pictures in space, which are shaded."""
+
+from __future__ import annotations
+
 import os
 import shutil
 import struct
@@ -8,6 +11,9 @@ import tempfile
 import time
 import xml.etree.ElementTree
 import zlib
+from typing import Any
+
+from trial import Trial
 
 TOP = os.path.dirname(os.path.dirname(os.path.abspath(__file__)))
 NAMESPACE = "{http://www.w3.org/2000/svg}"
@@ -26,14 +32,14 @@ return found;
 """
 
 
-def fetched(trial, kind, name):
+def fetched(trial: Trial, kind: str, name: str) -> bytes:
     """The file of a kind that the menu gives."""
     trial.browser.click("#export summary")
     trial.browser.click("#export_" + kind)
     return trial.browser.downloaded(name)
 
 
-def of_tool(trial, kind, *words):
+def of_tool(trial: Trial, kind: str, *words: str) -> bytes:
     """The file that tools/export writes of the same script."""
     out = os.path.join(trial.folder, "tool." + kind)
     ran = subprocess.run([os.path.join(TOP, "tools", "export"), trial.path, out, "--program", trial.program, *words], stderr=subprocess.PIPE, text=True)
@@ -43,14 +49,14 @@ def of_tool(trial, kind, *words):
         return file.read()
 
 
-def points_of(data):
+def points_of(data: bytes) -> tuple[int, str | None, str | None]:
     """How many points the paths of an SVG have, its title, and the script that it keeps."""
     root = xml.etree.ElementTree.fromstring(data)
-    paths = [path.get("d") for path in root.iter(NAMESPACE + "path")]
-    return sum(len(words.split()) for words in paths), root.find(NAMESPACE + "title").text, root.find(".//%smetadata" % NAMESPACE).text
+    paths = [path.get("d", "") for path in root.iter(NAMESPACE + "path")]
+    return sum(len(words.split()) for words in paths), root.findtext(NAMESPACE + "title"), root.findtext(".//%smetadata" % NAMESPACE)
 
 
-def png_of(data):
+def png_of(data: bytes) -> Any:
     """The size of a PNG, and its first point."""
     if not data.startswith(b"\x89PNG"):
         return None
@@ -65,7 +71,7 @@ def png_of(data):
     return size, tuple(zlib.decompress(packed)[1:1 + parts])
 
 
-def exports(trial):
+def exports(trial: Trial) -> None:
     """Files and a link."""
     browser, has_rsvg = trial.browser, bool(shutil.which("rsvg-convert"))
     trial.begin(ISLAND)
@@ -73,20 +79,20 @@ def exports(trial):
     for kind in ("svg", "obj", "dxf", "glb", *(("png", "pdf") if has_rsvg else ())):
         found = fetched(trial, kind, "island." + kind)
         trial.told("%s is what tools/export writes" % kind.upper(), len(found) > 500 and found == of_tool(trial, kind), found[:100])
-    found = points_of(fetched(trial, "svg", "island.svg"))
-    trial.told("the SVG is one path, with a title and the script", found == (256, "island", ISLAND), found)
+    drawn = points_of(fetched(trial, "svg", "island.svg"))
+    trial.told("the SVG is one path, with a title and the script", drawn == (256, "island", ISLAND), drawn)
     found = fetched(trial, "segments", "island.txt")
     trial.told("segments", found.startswith(b"segments 256\n") and found.count(b"\n") == 257)
     trial.told("the script", fetched(trial, "script", "island.lsys") == ISLAND.encode())
     turned(trial)
     browser.click("#less_level")
     trial.expect("level 1", lambda page: page["lines"] == 32)
-    found = points_of(fetched(trial, "svg", "island.svg"))
-    trial.told("the level that is seen is exported, and named", found[:2] == (32, "island, level 1"), found)
+    drawn = points_of(fetched(trial, "svg", "island.svg"))
+    trial.told("the level that is seen is exported, and named", drawn[:2] == (32, "island, level 1"), drawn)
     linked(trial)
 
 
-def turned(trial):
+def turned(trial: Trial) -> None:
     """What is turned on the page is turned in the files."""
     trial.browser.click("#turn_right")
     trial.expect("turned", lambda page: page["view"][5] > 0.2)
@@ -95,7 +101,7 @@ def turned(trial):
     trial.browser.click("#fit")
 
 
-def linked(trial):
+def linked(trial: Trial) -> None:
     browser = trial.browser
     browser.click("#export summary")
     browser.click("#export_link")
@@ -107,7 +113,7 @@ def linked(trial):
     trial.expect("it belongs to no file", lambda page: page["name"] == "from a link")
 
 
-def png(trial):
+def png(trial: Trial) -> None:
     """PNG with its size and ground, also where rsvg-convert isn't installed."""
     browser = trial.browser
     for is_bare in [False] * bool(shutil.which("rsvg-convert")) + [True]:
@@ -132,15 +138,15 @@ def png(trial):
     trial.is_quiet()
 
 
-def bare_path():
+def bare_path() -> str:
     """A folder for PATH in which there is Python and nothing else."""
     folder = tempfile.mkdtemp(prefix="lsys-bare-")
-    for name, path in (("python3", sys.executable), ("env", shutil.which("env"))):
+    for name, path in (("python3", sys.executable), ("env", shutil.which("env") or "/usr/bin/env")):
         os.symlink(os.path.realpath(path), os.path.join(folder, name))
     return folder
 
 
-def shaded(trial):
+def shaded(trial: Trial) -> None:
     """In space, what is far is paler and lies behind, and directions differ in light."""
     browser = trial.browser
     trial.begin(SPACE)
@@ -171,9 +177,9 @@ def shaded(trial):
     trial.is_quiet()
 
 
-def is_like(one, other):
+def is_like(one: bytes, other: bytes) -> bool:
     """Whether two drawings have the same points, but for what is rounded."""
-    values = [[float(value) for path in xml.etree.ElementTree.fromstring(data).iter(NAMESPACE + "path") for pair in path.get("d")[1:].rstrip("Z").split() for value in pair.split(",")]
+    values = [[float(value) for path in xml.etree.ElementTree.fromstring(data).iter(NAMESPACE + "path") for pair in path.get("d", "")[1:].rstrip("Z").split() for value in pair.split(",")]
               for data in (one, other)]
     return len(values[0]) == len(values[1]) and all(abs(a - b) < 0.01 for a, b in zip(*values))
 

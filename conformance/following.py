@@ -1,12 +1,18 @@
 """Trials without a page: a session that follows a script by its changed lines means what one from its beginning means."""
+
+from __future__ import annotations
+
 import os
 import random
+from collections.abc import Sequence
+from typing import Any
 
 from programs import TOP
 from session import BY_ITSELF, Session, commands_before_end, key_of
+from trial import Trial
 
 
-def changed_lines(choice, lines, others):
+def changed_lines(choice: random.Random, lines: list[str], others: Sequence[str]) -> list[str]:
     """A script with one of its lines changed, gone, new or elsewhere."""
     lines = list(lines)
     at = choice.randrange(len(lines)) if lines else 0
@@ -26,7 +32,7 @@ def changed_lines(choice, lines, others):
     return lines
 
 
-def following(trial):
+def following(trial: Trial) -> None:
     """Scripts that are followed by their changed lines mean what they mean from their beginning (without a page)."""
     choice = random.Random(1)
     scripts = {}
@@ -52,9 +58,10 @@ def following(trial):
     trial.told("of %d scripts %d were followed by edits, and all mean the same" % (followed, edited), not differing and edited > followed / 3, differing[:1])
 
 
-def coming_back(trial):
+def coming_back(trial: Trial) -> None:
     """A wrong line that left the script and comes back, as by an undo, is told again (without a page)."""
-    session, replies = Session([trial.program]), []
+    session = Session([trial.program])
+    replies: list[Any] = []
     first, second = ([b"axiom F", b"depth %d" % depth, line] for depth, line in ((2, b"prodution a"), (3, b"prodution b")))
     try:
         for commands in (first, second, first, second):
@@ -66,22 +73,20 @@ def coming_back(trial):
     trial.told("its reply is the one that it had", replies == [["ok 0/0", "ok 0/0", "refused syntax token 1"]] * 4, replies)
 
 
-def is_same(session, fresh):
+def is_same(session: Session, fresh: Session) -> bool:
     """Whether two sessions refuse the same lines and, where a line isn't wrong by itself, have the same levels and pictures."""
     refused = [[reply for reply in each.replies if reply.startswith("refused ")] for each in (session, fresh)]
     wrong = [reply for reply in refused[1] if reply.startswith(BY_ITSELF)]
     if wrong:
         return [reply for reply in refused[0] if reply.startswith(BY_ITSELF)] == wrong
-    shown = [[each.program.ask(line) for line in (b"show", b"string", b"segments", b"bounds")] for each in (session, fresh)]
+    shown = [[each.at_work().ask(line) for line in (b"show", b"string", b"segments", b"bounds")] for each in (session, fresh)]
     return refused[0] == refused[1] and shown[0] == shown[1]
 
 
-def tables(trial):
+def tables(trial: Trial) -> None:
     """The edits that lists of tables, lineages and versions need, asked of a stand-in for the program (without a page)."""
-    session = Session([trial.program])
-    session.ask = lambda line: taken(session, line)
+    session = Taking([trial.program])
     old = [b"version 2", b"axiom A", b"production winter w: A => A", b"consider winter: A", b"lineage names", b"depth 3"]
-    session.program = StandIn()
     for line in old:
         session.ask_in_turn(line)
     session.commands = old
@@ -96,16 +101,14 @@ def tables(trial):
         trial.told(what, found == edits, found)
 
 
-class StandIn:
-    """A program that takes each line."""
+class Taking(Session):
+    """A session that takes each line, without a program."""
 
-    def has_ended(self):
-        return False
-
-
-def taken(session, line):
-    session.told[key_of(line)], session.tried[key_of(line)], session.held[key_of(line)] = "ok 0/0", line, line
-    return "ok 0/0"
+    def ask(self, line: bytes) -> str:
+        key = key_of(line)
+        assert key is not None
+        self.told[key], self.tried[key], self.held[key] = "ok 0/0", line, line
+        return "ok 0/0"
 
 
 TRIALS = [following, coming_back, tables]

@@ -1,14 +1,20 @@
 """Trials of what the page has for watching growth and comparing: play in one frame, the module under the pointer, large pictures, sheets,
 two versions beside each other, and films."""
+
+from __future__ import annotations
+
 import json
 import os
 import re
 import shutil
 import subprocess
 import time
+from collections.abc import Iterator
+from typing import Any
 
 from asking import Looking
 from patience import stretch
+from trial import Trial
 
 TOP = os.path.dirname(os.path.dirname(os.path.abspath(__file__)))
 ISLAND = "axiom F-F-F-F\nproduction f: F => F-F+F+FF-F-F+F\nproduction g: G => GG\ndepth 3\nsvg\n"
@@ -39,7 +45,7 @@ MIDDLE = ("const {points, view, canvas} = lookPage.picture, at = 4 * arguments[0
 MODULE = "return [document.getElementById('module').hidden, document.getElementById('module_told').textContent, document.getElementById('module_way').textContent, lookPage.picture.lit.length]"
 
 
-def point_at(trial, segment):
+def point_at(trial: Trial, segment: int) -> list[Any]:
     """Lets the mouse rest on a segment, and gives what is told of its module."""
     x, y = trial.browser.run(MIDDLE, segment)
     origin = {"element-6066-11e4-a52e-4f735466cecf": trial.browser.element("#picture")}
@@ -52,7 +58,7 @@ def point_at(trial, segment):
     return told
 
 
-def growth(trial):
+def growth(trial: Trial) -> None:
     """Play keeps the frame of the last level, by speed, loop and keys."""
     browser = trial.browser
     trial.begin(ISLAND)
@@ -85,7 +91,7 @@ def growth(trial):
     trial.is_quiet()
 
 
-def modules(trial):
+def modules(trial: Trial) -> None:
     """The module under the pointer: where it comes from and what becomes of it."""
     browser = trial.browser
     trial.begin(PLANT)
@@ -111,7 +117,7 @@ def modules(trial):
     trial.is_quiet()
 
 
-def plates(trial):
+def plates(trial: Trial) -> None:
     """Large pictures are moved by a kept bitmap, and drawn beside the page."""
     browser = trial.browser
     is_whole = "return lookPage.picture.plate.shown !== null && lookPage.picture.plate.isWhole()"
@@ -131,14 +137,14 @@ def plates(trial):
     trial.is_quiet()
 
 
-def alone(program, lines):
+def alone(program: str, lines: list[str]) -> str:
     """The segments of a script that is run by itself."""
     script = "\n".join([line for line in lines if line not in ("svg", "segments")] + ["segments", ""])
     replies = subprocess.run([program], input=script.encode(), stdout=subprocess.PIPE).stdout.decode()
     return replies[replies.index("segments "):]
 
 
-def exported(trial, script):
+def exported(trial: Trial, script: str) -> str:
     """The SVG that tools/export writes of a script."""
     made = os.path.join(trial.folder, "alone.svg")
     subprocess.run([os.path.join(TOP, "tools", "export"), "-", made, "--program", trial.program], input=script.encode(), stderr=subprocess.DEVNULL)
@@ -146,7 +152,7 @@ def exported(trial, script):
         return file.read()
 
 
-def sheets(trial):
+def sheets(trial: Trial) -> None:
     """Variants beside each other are those of single runs, and a click takes one."""
     browser = trial.browser
     trial.begin(PLANT)
@@ -184,7 +190,7 @@ def sheets(trial):
     trial.is_quiet()
 
 
-def sheets_written(trial):
+def sheets_written(trial: Trial) -> None:
     """tools/export writes the same pictures as one file (without a page)."""
     trial.begin(PLANT)
     made = os.path.join(trial.folder, "sheet.svg")
@@ -196,7 +202,7 @@ def sheets_written(trial):
     for depth in (1, 2):
         for value in (1, 2, 3):
             svg = exported(trial, PLANT.replace("A(3)", "A(%d)" % value).replace("depth 3", "depth %d" % depth))
-            wanted.append((re.search("viewBox=\"[^\"]*\"", svg).group(), svg[svg.index("<path"):svg.rindex("</g>")]))
+            wanted.append((re.findall("viewBox=\"[^\"]*\"", svg)[0], svg[svg.index("<path"):svg.rindex("</g>")]))
     trial.told("an SVG has six pictures, each that of a single run", ran.returncode == 0 and cells == wanted, (ran.stderr, len(cells), cells[:1], wanted[:1]))
     ran = subprocess.run([os.path.join(TOP, "tools", "export"), trial.path, os.path.join(trial.folder, "sheet.png"), "--program", trial.program, "--sheet", "seed=1..2"], stderr=subprocess.PIPE, text=True)
     is_made = os.path.exists(os.path.join(trial.folder, "sheet.png"))
@@ -205,7 +211,7 @@ def sheets_written(trial):
     trial.told("a number that there isn't is told", ran.returncode == 2 and "line 9 has no number 9" in ran.stderr, ran.stderr)
 
 
-def beside(trial):
+def beside(trial: Trial) -> None:
     """A version that is held, beside what the script becomes."""
     browser = trial.browser
     trial.begin(ISLAND.replace("depth 3", "depth 1"))
@@ -232,14 +238,14 @@ def beside(trial):
     trial.is_quiet()
 
 
-def ends(program, script):
+def ends(program: str, script: str) -> Iterator[tuple[Any, ...]]:
     """The segments of a script, each the same whichever end it begins at."""
     for line in alone(program, script.split("\n")).split("\n")[1:-1]:
         numbers = tuple(map(int, line.split()))
         yield min(numbers[:3], numbers[3:6]), max(numbers[:3], numbers[3:6]), numbers[6]
 
 
-def films(trial):
+def films(trial: Trial) -> None:
     """Films of the levels, and a file that is opened without a server and taken back."""
     browser, found = trial.browser, {}
     trial.begin(ISLAND.replace("depth 3", "depth 2"))
@@ -261,14 +267,14 @@ def films(trial):
     single(trial, found["html"])
 
 
-def makes_gifs():
+def makes_gifs() -> bool:
     """Whether there is a program that makes a GIF."""
     magick = shutil.which("magick") or shutil.which("convert")
     says = subprocess.run([magick, "-version"], stdout=subprocess.PIPE, stderr=subprocess.STDOUT).stdout if magick else b""
     return says.startswith(b"Version: ImageMagick") or bool(shutil.which("ffmpeg"))
 
 
-def single(trial, page):
+def single(trial: Trial, page: bytes) -> None:
     """The one HTML file: opened with the network off, and taken back."""
     browser, path = trial.browser, os.path.join(trial.folder, "island.html")
     with open(path, "wb") as file:
@@ -305,7 +311,7 @@ def single(trial, page):
         trial.told("tools/look takes the script of %s" % ("the file" if named == path else "a link"), state["script"] == script and state["path"] is None, state)
 
 
-def taking_back(trial):
+def taking_back(trial: Trial) -> None:
     """Files and links that hold no script are refused by tools/look (without a page)."""
     trial.begin(ISLAND)
     with open(os.path.join(trial.folder, "none.html"), "w") as file:

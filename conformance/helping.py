@@ -1,9 +1,16 @@
 """Trials of what the page tells and how it helps: refused lines, long work, and a server that goes."""
+
+from __future__ import annotations
+
 import os
 import signal
 import time
+from collections.abc import Callable
+from typing import Any
 
+from browser import Browser
 from patience import PATIENCE, is_within
+from trial import Trial
 
 LONG = "axiom A(1)\nproduction a: A(x) < A(y) : x+y*x-y > x*y*x => A(x)A(y)\nproduction b: A(x) => A(x+1)A(x)\ndepth 5\n"
 ISLAND = "axiom F-F-F-F\nproduction f: F => F-F+F+FF-F-F+F\ndepth 2\nsvg\n"
@@ -18,14 +25,14 @@ return {to_refused: at('stale').hidden ? '' : at('to_refused').textContent, draw
 """
 
 
-def expect(trial, what, holds):
+def expect(trial: Trial, what: str, holds: Callable[[Any], object]) -> Any:
     """Waits until the page tells what it should."""
     told = trial.seen(TOLD, holds)
     trial.told(what, bool(holds(told)), told)
     return told
 
 
-def refusals(trial):
+def refusals(trial: Trial) -> None:
     """What was expected, the line that was meant, and of which lines the picture is."""
     browser = trial.browser
     trial.begin(ISLAND)
@@ -74,7 +81,7 @@ at('cancel').addEventListener('click', () => note('cancel'), true);
 """
 
 
-def long_work(trial):
+def long_work(trial: Trial) -> None:
     """What takes long says so after half a second, and can be stopped; the limit of a million symbols and a refusal by it."""
     browser = trial.browser
     trial.begin(LONG, "--limit", "1000000")
@@ -124,7 +131,7 @@ return false;
 TELLS_GONE = "return document.getElementById('notice').textContent.includes(\"can't be reached\")"
 
 
-def silent_controls(trial, names):
+def silent_controls(trial: Trial, names: list[str]) -> list[str]:
     """The controls at whose use the page doesn't tell that the server is gone, or soon tells something else."""
     silent = []
     for number, name in enumerate(names):
@@ -137,13 +144,13 @@ def silent_controls(trial, names):
     return silent
 
 
-def offline(trial):
+def offline(trial: Trial) -> None:
     """The network goes and comes back: the page goes on with what was typed meanwhile."""
     browser = trial.browser
     trial.begin(ISLAND)
     expect(trial, "drawn", lambda told: told["lines"] == 256)
 
-    def is_off(is_offline):
+    def is_off(is_offline: bool) -> None:
         browser.tell("Network.emulateNetworkConditions", {"offline": is_offline, "latency": 0, "downloadThroughput": -1, "uploadThroughput": -1})
 
     browser.tell("Network.enable", {})
@@ -159,7 +166,7 @@ def offline(trial):
     trial.told("no error is left uncaught", not complaints, complaints)
 
 
-def gone(trial):
+def gone(trial: Trial) -> None:
     """The server goes: the page keeps the text, offers it as a file, and each control tells the same."""
     browser = trial.browser
     trial.begin(ISLAND)
@@ -205,7 +212,7 @@ return [...commands.filter(word => !lookPage.help.tipAt(word, 1).startsWith(word
 """
 
 
-def side_panel(trial):
+def side_panel(trial: Trial) -> None:
     """The language at the side: commands, a search, examples that open, and what a word is."""
     browser = trial.browser
     trial.begin(ISLAND)
@@ -243,11 +250,12 @@ def side_panel(trial):
 PIECES = ["bracketed plant", "context signal", "stochastic", "table schedule", "homomorphism"]
 
 
-def completing(trial):
+def completing(trial: Trial) -> None:
     """Ctrl+Space, with CodeMirror and without."""
     browser = trial.browser
     shown = "return Array.from(document.querySelectorAll('#completions:not([hidden]) li'), each => each.textContent)"
-    for words in ([], ["--plain"]):
+    choices: tuple[list[str], ...] = ([], ["--plain"])
+    for words in choices:
         trial.begin("version 2\naxiom AB_x\nproduction winter grow: A => B_x\nproduction stop: B_x => A\n\n", *words)
         expect(trial, "a script %s" % " ".join(words), lambda told: told["replies"] == 4)
         trial.caret_to(4, 0)
@@ -282,7 +290,7 @@ def completing(trial):
         trial.is_quiet()
 
 
-def beginnings(trial):
+def beginnings(trial: Trial) -> None:
     """Templates, files that are opened and dropped, and the field that asks."""
     browser = trial.browser
     trial.begin("axiom F\nsvg\n")
@@ -352,7 +360,7 @@ return found;
 """
 
 
-def access(trial):
+def access(trial: Trial) -> None:
     """Names of controls, focus and contrast, light and dark, at three widths, with a refusal, the help and the gallery."""
     browser = trial.browser
     try:
@@ -393,10 +401,10 @@ def access(trial):
         browser.tell("Emulation.clearDeviceMetricsOverride", {})
 
 
-def focus_order(browser):
+def focus_order(browser: Browser) -> list[str]:
     """The controls that Tab leads to, from the first one on."""
     browser.run("document.getElementById('open_gallery').focus()")
-    order = []
+    order: list[str] = []
     for _ in range(60):
         here = browser.run("const here = document.activeElement; return here.id || here.className || here.tagName")
         if here in order[:1] and len(order) > 5:

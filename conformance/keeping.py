@@ -1,5 +1,8 @@
 """Trials of what stands behind the page: undo, programs and pages that go or come, files that others write, requests from elsewhere, large
 scripts, and the ends of the tool."""
+
+from __future__ import annotations
+
 import json
 import os
 import shutil
@@ -10,10 +13,10 @@ import time
 
 from patience import PATIENCE, is_within, waited
 from programs import TOP
-from trial import ISLAND
+from trial import ISLAND, Trial
 
 
-def undoing(trial):
+def undoing(trial: Trial) -> None:
     """Undo and redo."""
     browser = trial.browser
     trial.begin(ISLAND)
@@ -43,7 +46,7 @@ def undoing(trial):
     trial.expect("the other one is an example again", lambda page: page["name"] == "dragon")
 
 
-def killed(trial):
+def killed(trial: Trial) -> None:
     """A program that is killed."""
     browser = trial.browser
     trial.begin(ISLAND)
@@ -61,7 +64,7 @@ def killed(trial):
     trial.expect("quit ends the script and no program", lambda page: page["lines"] == 1 and page["replies"] == ["ok 0/0"])
 
 
-def two_pages(trial):
+def two_pages(trial: Trial) -> None:
     """Two pages on one script."""
     browser = trial.browser
     trial.begin(ISLAND)
@@ -84,7 +87,7 @@ def two_pages(trial):
     browser.use(first)
 
 
-def other_programs(trial):
+def other_programs(trial: Trial) -> None:
     """Another program that saves the file."""
     browser = trial.browser
     trial.begin(ISLAND)
@@ -123,7 +126,7 @@ def other_programs(trial):
     trial.expect("stay when it is saved", lambda page: open(trial.path, newline="").read() == changed.replace("\n", "\r\n"))
 
 
-def foreign(trial):
+def foreign(trial: Trial) -> None:
     """Requests from elsewhere."""
     trial.begin(ISLAND)
     trial.expect("the island is drawn", lambda page: page["lines"] == 256)
@@ -131,17 +134,21 @@ def foreign(trial):
     number = trial.browser.run("return lookPage.state.text")
     body = json.dumps({"base": number, "first": 0, "removed": 1, "lines": ["axiom F"]}).encode()
     here = trial.address[:trial.address.index("/?")]
-    expected = [("a foreign host", "GET", "/", {"Host": "evil.example"}, None, 403), ("a foreign origin", "GET", "/state?turn=0", {"Origin": "http://evil.example"}, None, 403),
-                ("a foreign page that draws a picture of it", "GET", "/export/svg", {"Sec-Fetch-Site": "cross-site"}, None, 403),
-                ("a change without a token", "POST", "/change", {"X-Token": None}, body, 403), ("a change with another token", "POST", "/change", {"X-Token": "x" * 32}, body, 403),
-                ("a change without a cookie", "POST", "/change", {"Cookie": None}, body, 403),
-                ("a change with the token from a foreign origin", "POST", "/change", {"Origin": "http://evil.example"}, body, 403),
-                ("a change with the token from a foreign host", "POST", "/change", {"Host": "evil.example"}, body, 403),
-                ("a file beside the page", "GET", "/web/../look", {}, None, 404), ("a file of the machine", "GET", "/codemirror/../../../../etc/passwd", {}, None, 404),
-                ("an example that is none", "POST", "/open", {}, json.dumps({"name": "../look"}).encode(), 404),
-                ("a save into another folder", "POST", "/save", {}, json.dumps({"text": number, "name": "../x.lsys"}).encode(), 400),
-                ("a request without sense", "POST", "/change", {}, b"[", 400), ("no such lines", "POST", "/change", {},
-                json.dumps({"base": number, "first": 99, "removed": 1, "lines": []}).encode(), 400)]
+    expected: list[tuple[str, str, str, dict[str, str | None], bytes | None, int]] = [
+        ("a foreign host", "GET", "/", {"Host": "evil.example"}, None, 403),
+        ("a foreign origin", "GET", "/state?turn=0", {"Origin": "http://evil.example"}, None, 403),
+        ("a foreign page that draws a picture of it", "GET", "/export/svg", {"Sec-Fetch-Site": "cross-site"}, None, 403),
+        ("a change without a token", "POST", "/change", {"X-Token": None}, body, 403),
+        ("a change with another token", "POST", "/change", {"X-Token": "x" * 32}, body, 403),
+        ("a change without a cookie", "POST", "/change", {"Cookie": None}, body, 403),
+        ("a change with the token from a foreign origin", "POST", "/change", {"Origin": "http://evil.example"}, body, 403),
+        ("a change with the token from a foreign host", "POST", "/change", {"Host": "evil.example"}, body, 403),
+        ("a file beside the page", "GET", "/web/../look", {}, None, 404),
+        ("a file of the machine", "GET", "/codemirror/../../../../etc/passwd", {}, None, 404),
+        ("an example that is none", "POST", "/open", {}, json.dumps({"name": "../look"}).encode(), 404),
+        ("a save into another folder", "POST", "/save", {}, json.dumps({"text": number, "name": "../x.lsys"}).encode(), 400),
+        ("a request without sense", "POST", "/change", {}, b"[", 400),
+        ("no such lines", "POST", "/change", {}, json.dumps({"base": number, "first": 99, "removed": 1, "lines": []}).encode(), 400)]
     for what, method, path, headers, sent, wanted in expected:
         status = client.ask(method, path, headers, sent)[0]
         trial.told("%s gets %d" % (what, wanted), status == wanted, status)
@@ -157,7 +164,7 @@ def foreign(trial):
     trial.expect("and seen", lambda page: page["script"].startswith("axiom F\nproduction"))
 
 
-def large(trial):
+def large(trial: Trial) -> None:
     """A picture of a million lines, a line of 65,536 bytes and one more, a script of 16 MB."""
     browser = trial.browser
     trial.begin("axiom A\nproduction a: A => AA\nhom h: A => %s\ndepth 10\nsvg\n" % ("F" * 30))
@@ -188,7 +195,7 @@ def large(trial):
     trial.expect("and can be changed", lambda page: page["lines"] == 32)
 
 
-def ends(trial):
+def ends(trial: Trial) -> None:
     """tools/look ends at a signal, its program with it."""
     trial.begin(ISLAND)
     trial.expect("the island is drawn", lambda page: page["lines"] == 256)
@@ -210,7 +217,7 @@ def ends(trial):
     trial.told("and still gives the script", b"depth 3" in trial.browser.downloaded("island.lsys"))
 
 
-def opening(trial):
+def opening(trial: Trial) -> None:
     """The page is opened in a browser where there is one."""
     trial.end()
     folder = tempfile.mkdtemp(prefix="lsys-look-")
@@ -220,6 +227,7 @@ def opening(trial):
     os.chmod(opener, 0o755)
     words = {**os.environ, "PATH": folder + os.pathsep + os.environ["PATH"], "DISPLAY": ":99"}
     trial.look = subprocess.Popen([os.path.join(TOP, "tools", "look"), "--program", trial.program], env=words, stderr=subprocess.PIPE, text=True)
+    assert trial.look.stderr
     line = trial.look.stderr.readline()
     waited(lambda: os.path.exists(told) and os.path.getsize(told), bool)
     with open(told) as file:

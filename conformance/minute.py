@@ -1,11 +1,15 @@
 """Trials of the page's first minute: a new script, the limit's field, a mark at the head of a file, and a server that was begun anew."""
+
+from __future__ import annotations
+
 import os
 import subprocess
 
 from patience import PATIENCE
+from trial import Trial
 
 
-def first_minute(trial):
+def first_minute(trial: Trial) -> None:
     """A new script, the limit, the licence, a byte order mark."""
     browser = trial.browser
     trial.begin(None, "new.lsys")
@@ -28,7 +32,7 @@ def first_minute(trial):
     trial.is_quiet()
 
 
-def begun_anew(trial):
+def begun_anew(trial: Trial) -> None:
     """Another tools/look at the same port doesn't know the page, which keeps its text."""
     trial.begin("axiom F+F\nsvg\n")
     trial.expect("drawn", lambda page: page["lines"] == 2)
@@ -36,6 +40,7 @@ def begun_anew(trial):
     trial.look.terminate()
     trial.look.wait(PATIENCE)
     again = subprocess.Popen([*trial.look.args, "--port", port], cwd=trial.folder, stderr=subprocess.PIPE, text=True)
+    assert again.stderr
     again.stderr.readline()
     trial.expect("the page says that it is another one", lambda page: "started anew" in page["question"])
     trial.expect("and has its text", lambda page: page["script"] == "axiom F+F\nsvg\n")

@@ -1,14 +1,20 @@
 """Rows of `conformance/export`: each kind of file, read back plainly or by another program, has the points of the picture, one after another."""
+
+from __future__ import annotations
+
 import collections
 import math
 import os
 import random
 import subprocess
 import xml.etree.ElementTree
+from collections.abc import Callable, Iterable, Sequence
+from typing import Any, NamedTuple
 
 import readers
-from figure import SPACE, Figure, joined, plane_of
+from figure import SPACE, Figure, Put, joined, plane_of
 from formats import SIZES, Unfit, wish_of, written
+from readers import Point, Run
 
 KINDS = ("svg", "pdf", "png", "dxf", "obj", "glb", "gltf")
 PNG_SIZE = 500
@@ -25,22 +31,29 @@ POINTS_OF_A_PDF = SIZES["pdf"][2] / 25.4 * 72
 # rsvg-convert tells by how much a drawing is larger in six digits.
 TOLD_OF_SCALE = 2e-6
 
-# A kind of file, who reads it, how, what is missing for that or nothing, and how near a place has to be: in the whole length of a picture, and
-# in what it measures by.
-Row = collections.namedtuple("Row", "kind reader read lacks relative absolute")
+
+class Row(NamedTuple):
+    """A kind of file, who reads it, how, what is missing for that or nothing, and how near a place has to be: in the whole length of a picture,
+    and in what it measures by."""
+    kind: str
+    reader: str
+    read: Callable[[Sequence[str]], list[list[Run]]]
+    lacks: str
+    relative: float
+    absolute: float
 
 
 class Picture:
     """A script's picture, its files, and what a reader should find in them."""
 
-    def __init__(self, name, script, figure, view):
+    def __init__(self, name: str, script: bytes, figure: Figure, view: dict[str, str]) -> None:
         self.name, self.script, self.figure, self.view = name, script, figure, view
         self.count = sum(len(places) - 1 for _, places in figure.runs)
 
-    def path(self, folder, kind):
+    def path(self, folder: str, kind: str) -> str:
         return os.path.join(folder, "%s.%s" % (self.name, kind))
 
-    def write(self, folder, kind):
+    def write(self, folder: str, kind: str) -> str:
         """Writes a file. Says what is missing where it can't be had."""
         words = {**self.view, **({"size": str(PNG_SIZE)} if kind == "png" else {})}
         try:
@@ -51,10 +64,10 @@ class Picture:
             file.write(data)
         return ""
 
-    def put(self):
+    def put(self) -> Put:
         return plane_of(self.figure.lattice, *(float(self.view[word]) if word in self.view else None for word in ("turn", "tilt")))
 
-    def expected(self, kind):
+    def expected(self, kind: str) -> list[Run]:
         """The runs of a file, in what it measures by."""
         if kind in ("svg", "pdf"):
             return [(width, [(10 * x, 10 * y) for x, y in points]) for width, points in self.figure.drawn(self.put())]
@@ -64,7 +77,7 @@ class Picture:
         return list(runs)
 
 
-def rows():
+def rows() -> list[Row]:
     no_inkex = "" if readers.has_inkex() else "Inkscape's Python modules aren't installed (in Debian: inkscape)"
     rsvg, poppler = readers.lacks("rsvg-convert", "librsvg2-bin"), readers.lacks("pdftocairo", "poppler-utils")
     ezdxf, assimp = readers.lacks_module("ezdxf", "python3-ezdxf"), readers.lacks("assimp", "assimp-utils")
@@ -78,11 +91,11 @@ def rows():
             Row("glb", "by assimp", readers.tubes_by_assimp, assimp, 1e-5, 1e-5)]
 
 
-def is_near(one, other, near):
+def is_near(one: Sequence[float], other: Sequence[float], near: float) -> bool:
     return all(abs(a - b) <= near for a, b in zip(one, other))
 
 
-def is_between(place, start, stop, near):
+def is_between(place: Sequence[float], start: Sequence[float], stop: Sequence[float], near: float) -> bool:
     """Whether a place is on a line, in the plane."""
     away = [to - at for at, to in zip(start, stop)]
     offset = [to - at for at, to in zip(start, place)]
@@ -93,7 +106,7 @@ def is_between(place, start, stop, near):
     return -2 * near <= along <= length + 2 * near and abs(away[0] * offset[1] - away[1] * offset[0]) / length <= 2 * near
 
 
-def goes_through(found, expected, near):
+def goes_through(found: Sequence[Point], expected: Sequence[Point], near: float) -> bool:
     """Whether a line has the points that are expected, in their order. A program may leave out those on a straight part."""
     if not is_near(found[0], expected[0], near):
         return False
@@ -109,7 +122,7 @@ def goes_through(found, expected, near):
     return all(is_near(place, found[-1], near) for place in expected[at:])
 
 
-def goes_around(found, expected, near):
+def goes_around(found: Sequence[Point], expected: list[Point], near: float) -> bool:
     """Whether a line has the points that are expected; a closed one from any of them on, and either way round, as a rectangle may be told."""
     if goes_through(found, expected, near):
         return True
@@ -120,28 +133,28 @@ def goes_around(found, expected, near):
     return any(goes_through(found, places, near) or goes_through(found, places[::-1], near) for places in around)
 
 
-def are_runs(found, expected, near):
+def are_runs(found: Sequence[Run], expected: Sequence[Run], near: float) -> bool:
     """Whether the runs of a drawing are those that are expected."""
     return len(found) == len(expected) and all(abs(width - wanted) <= 1e-3 * wanted + 2 * near and goes_around(points, places, near)
                                                for (width, points), (wanted, places) in zip(found, expected))
 
 
-def by_width(runs):
+def by_width(runs: Iterable[Run]) -> dict[float, list[tuple[Point, Point]]]:
     """The ends of all segments, for each width, in their order."""
-    found = collections.defaultdict(list)
+    found: dict[float, list[tuple[Point, Point]]] = collections.defaultdict(list)
     for width, points in runs:
         found[width].extend(zip(points, points[1:]))
     return found
 
 
-def are_segments(found, expected, near):
-    found, expected = by_width(found), by_width(expected)
-    return found.keys() == expected.keys() and all(
-        len(found[width]) == len(expected[width]) and all(is_near(a, c, near) and is_near(b, d, near) for (a, b), (c, d) in zip(found[width], expected[width]))
-        for width in expected)
+def are_segments(found: Iterable[Run], expected: Iterable[Run], near: float) -> bool:
+    ends, wanted = by_width(found), by_width(expected)
+    return ends.keys() == wanted.keys() and all(
+        len(ends[width]) == len(wanted[width]) and all(is_near(a, c, near) and is_near(b, d, near) for (a, b), (c, d) in zip(ends[width], wanted[width]))
+        for width in wanted)
 
 
-def fits(row, picture, found):
+def fits(row: Row, picture: Picture, found: list[Run]) -> bool:
     """Whether what a reader found is the picture."""
     expected = picture.expected(row.kind)
     whole = max((abs(value) for _, points in expected for point in points for value in point), default=0)
@@ -152,15 +165,15 @@ def fits(row, picture, found):
     return are_segments(found, expected, row.absolute + row.relative * whole)
 
 
-def keeps_script(path, picture):
+def keeps_script(path: str, picture: Picture) -> bool:
     """Whether an SVG has its title, and keeps its script."""
     root = xml.etree.ElementTree.parse(path).getroot()
-    kept = root.find(".//%smetadata" % readers.NAMESPACE).text or ""
+    kept = root.findtext(".//%smetadata" % readers.NAMESPACE) or ""
     wanted = "".join(sign if sign in "\t\n\r" or sign >= " " else "?" for sign in picture.script.decode("latin-1").replace("\r\n", "\n"))
-    return root.find(readers.NAMESPACE + "title").text == picture.name and kept == wanted
+    return root.findtext(readers.NAMESPACE + "title") == picture.name and kept == wanted
 
 
-def picture_of(program, name, script, choice=None):
+def picture_of(program: str, name: str, script: bytes, choice: random.Random | None = None) -> Picture | None:
     """The picture that is left of a script, whatever was refused; seen from somewhere, where something chooses. None where there is none."""
     ran = subprocess.run([program], input=script + b"\nshow\nsegments\n", stdout=subprocess.PIPE, stderr=subprocess.DEVNULL)
     shown, _, last = ran.stdout.decode("latin-1").rpartition("segments ")
@@ -175,7 +188,7 @@ def picture_of(program, name, script, choice=None):
     return Picture(name, script, figure, view)
 
 
-def random_string(choice, length):
+def random_string(choice: random.Random, length: int) -> str:
     """Symbols and branches, which may be nested."""
     words, opened = [], 0
     for _ in range(length):
@@ -190,16 +203,17 @@ def random_string(choice, length):
     return "".join(words) + "]" * opened
 
 
-def random_script(choice):
+def random_script(choice: random.Random) -> bytes:
     lines = ["; <random> & \"drawn\"", "lattice " + choice.choice(["square", "hexagonal", "cubic"]), "axiom F" + random_string(choice, choice.randrange(1, 9))]
     lines += ["production f: F => " + random_string(choice, choice.randrange(2, 7)), "production g: F_a => F" + random_string(choice, 2)]
     lines += ["hom h: F => " + random_string(choice, 3)] * (choice.random() < 0.3)
     return "\n".join([*lines, "depth %d" % choice.randrange(1, 5), ""]).encode()
 
 
-def random_pictures(program, count):
+def random_pictures(program: str, count: int) -> list[Picture]:
     """So many pictures of random scripts, most of them seen from somewhere."""
-    choice, number, found = random.Random(84), 0, []
+    choice, number = random.Random(84), 0
+    found: list[Picture] = []
     while len(found) < count:
         picture = picture_of(program, "random_%d" % number, random_script(choice), choice)
         if picture and picture.count <= MOST_SEGMENTS:
@@ -208,7 +222,7 @@ def random_pictures(program, count):
     return found
 
 
-def read_back(pictures, folder):
+def read_back(pictures: list[Picture], folder: str) -> int:
     """How many rows of the table fail; each is told."""
     missing = {kind: max([picture.write(folder, kind) for picture in pictures]) for kind in KINDS}
     total, failed = sum(picture.count for picture in pictures), 0
@@ -224,11 +238,11 @@ def read_back(pictures, folder):
     return failed + bool(lost) + png_rows(pictures, folder, missing["png"])
 
 
-def told_of(names):
+def told_of(names: Sequence[str]) -> str:
     return " (%s)" % ", ".join(names[:5]) if names else ""
 
 
-def differing(row, pictures, folder):
+def differing(row: Row, pictures: list[Picture], folder: str) -> list[str]:
     """The names of the pictures that a reader finds otherwise."""
     differ = []
     for first in range(0, len(pictures), AT_ONCE):
@@ -242,7 +256,7 @@ def differing(row, pictures, folder):
     return differ
 
 
-def png_rows(pictures, folder, missing):
+def png_rows(pictures: list[Picture], folder: str, missing: str) -> int:
     """PNGs have their size, a transparent ground, and ink where lines are and nowhere else."""
     lacks = missing or readers.lacks_module("PIL", "python3-pil")
     if lacks:
@@ -260,7 +274,7 @@ def png_rows(pictures, folder, missing):
     return bool(differ)
 
 
-def on_png(picture, path):
+def on_png(picture: Picture, path: str) -> list[Any]:
     """The lines of a picture on its PNG: the middle, both ends, and half of the width."""
     left, top, width, height = readers.box_of(readers.text_at(path))
     scale, lines = PNG_SIZE / max(width, height), []
@@ -272,7 +286,7 @@ def on_png(picture, path):
     return lines
 
 
-def is_inked(lines, found):
+def is_inked(lines: list[Any], found: Any) -> bool:
     """Whether a PNG, as it was found, has these lines and nothing else."""
     width, height, corners, inks, some, is_dark = found
     if max(width, height) != PNG_SIZE or min(inks) < LEAST_INK or not is_dark:
@@ -281,10 +295,10 @@ def is_inked(lines, found):
         return not any(corners)
     # A long line may end in a corner, where the margin is thinner than a point.
     inked = [place for place, ink in zip(((x, y) for x in (0, width - 1) for y in (0, height - 1)), corners) if ink]
-    return all(any(distance((x + 0.5, y + 0.5), start, stop) <= half + 1.5 for _, start, stop, half in lines) for x, y in inked + list(map(tuple, some)))
+    return all(any(distance((x + 0.5, y + 0.5), start, stop) <= half + 1.5 for _, start, stop, half in lines) for x, y in [*inked, *some])
 
 
-def distance(place, start, stop):
+def distance(place: Sequence[float], start: Sequence[float], stop: Sequence[float]) -> float:
     """From a place to a line, in the plane."""
     away, offset = (stop[0] - start[0], stop[1] - start[1]), (place[0] - start[0], place[1] - start[1])
     square = away[0] * away[0] + away[1] * away[1]

@@ -3,6 +3,9 @@ points of a line, in the order of the file, in what the file measures by.
 
 A reader that isn't here says what it needs. Nothing is installed.
 """
+
+from __future__ import annotations
+
 import base64
 import json
 import math
@@ -11,10 +14,16 @@ import re
 import shutil
 import struct
 import subprocess
+import sys
 import xml.etree.ElementTree
+from collections.abc import Iterator, Sequence
+from typing import Any
 
 from formats import python_with
 
+# A point, and a run: its width and its points.
+Point = tuple[float, ...]
+Run = tuple[float, "list[Point]"]
 NAMESPACE = "{http://www.w3.org/2000/svg}"
 INKEX = "/usr/share/inkscape/extensions"
 NUMBER = re.compile(r"[-+]?[0-9.]+(?:e[-+]?\d+)?")
@@ -60,29 +69,29 @@ for path, places in json.load(sys.stdin):
 """
 
 
-def text_at(path):
+def text_at(path: str) -> str:
     with open(path, encoding="utf-8") as file:
         return file.read()
 
 
-def svg_paths(text):
+def svg_paths(text: str) -> Iterator[Run]:
     """The paths of an SVG, each by its width and its points, with y going up, moved as it says."""
     for path in xml.etree.ElementTree.fromstring(text).iter(NAMESPACE + "path"):
-        words = path.get("d").strip()
+        words = path.get("d", "").strip()
         values = list(map(float, NUMBER.findall(words)))
         points = list(zip(values[::2], values[1::2]))
         points += points[:1] if words.endswith("Z") else []
-        width = path.get("stroke-width") or re.search(r"stroke-width:([^;]+)", path.get("style")).group(1)
+        width = path.get("stroke-width") or re.findall(r"stroke-width:([^;]+)", path.get("style", ""))[0]
         matrix = list(map(float, NUMBER.findall(path.get("transform", ""))))
         a, b, c, d, e, f = matrix or (1, 0, 0, 1, 0, 0)
         yield float(width) * math.sqrt(abs(a * d - b * c)), [(a * x + c * y + e, -(b * x + d * y + f)) for x, y in points]
 
 
-def box_of(text):
-    return list(map(float, re.search(r'viewBox="([^"]*)"', text).group(1).split()))
+def box_of(text: str) -> list[float]:
+    return list(map(float, re.findall(r'viewBox="([^"]*)"', text)[0].split()))
 
 
-def back_in(text, box):
+def back_in(text: str, box: Sequence[float]) -> list[Run]:
     """The runs of a drawing, as in another one that has this box with the same middle and longer side."""
     left, top, width, height = box_of(text)
     factor = max(box[2:]) / max(width, height)
@@ -90,11 +99,11 @@ def back_in(text, box):
     return [(stroke * factor, [(x * factor + across, y * factor - down) for x, y in points]) for stroke, points in svg_paths(text)]
 
 
-def plain_svg(paths):
+def plain_svg(paths: Sequence[str]) -> list[list[Run]]:
     return [list(svg_paths(text_at(path))) for path in paths]
 
 
-def svg_by_rsvg(paths):
+def svg_by_rsvg(paths: Sequence[str]) -> list[list[Run]]:
     found = []
     for path in paths:
         box = box_of(text_at(path))
@@ -104,7 +113,7 @@ def svg_by_rsvg(paths):
     return found
 
 
-def pdf_by_poppler(paths):
+def pdf_by_poppler(paths: Sequence[str]) -> list[list[Run]]:
     """A PDF as poppler draws it, in what the SVG beside it measures by."""
     found = []
     for path in paths:
@@ -113,33 +122,34 @@ def pdf_by_poppler(paths):
     return found
 
 
-def svg_by_inkscape(paths):
+def svg_by_inkscape(paths: Sequence[str]) -> list[list[Run]]:
     ran = run_by(python_with("inkex") or "/usr/bin/python3", BY_INKEX, paths)
     return [[(float(width), [(x, -y) for x, y in points]) for width, points in json.loads(line)] for line in ran]
 
 
-def run_by(python, script, paths):
+def run_by(python: str | None, script: str, paths: Sequence[str]) -> list[str]:
     """What a script prints of files, a line for each."""
     environment = {**os.environ, "PYTHONPATH": INKEX, "PYTHONDONTWRITEBYTECODE": "1"}
-    ran = subprocess.run([python, "-c", script, *paths], stdout=subprocess.PIPE, stderr=subprocess.PIPE, env=environment, text=True)
+    ran = subprocess.run([python or sys.executable, "-c", script, *paths], stdout=subprocess.PIPE, stderr=subprocess.PIPE, env=environment, text=True)
     if ran.returncode:
         raise RuntimeError(ran.stderr.strip().split("\n")[-1])
     return ran.stdout.splitlines()
 
 
-def width_in(name):
+def width_in(name: str) -> int:
     return int(name.rpartition("_")[2])
 
 
-def plain_dxf(paths):
+def plain_dxf(paths: Sequence[str]) -> list[list[Run]]:
     """The lines and polylines of a DXF, each record of which is a number and a value, on two lines."""
     return [list(runs_of_dxf(text_at(path).splitlines())) for path in paths]
 
 
-def runs_of_dxf(lines):
-    entity, points = {}, []
+def runs_of_dxf(lines: list[str]) -> Iterator[Run]:
+    entity: dict[str, str] = {}
+    points: list[Point] = []
 
-    def place(*keys):
+    def place(*keys: str) -> Point:
         return tuple(float(entity.get(key, 0)) for key in keys)
     for code, value in list(zip(map(str.strip, lines[::2]), map(str.strip, lines[1::2]))) + [("0", "END")]:
         if code == "0":
@@ -156,16 +166,17 @@ def runs_of_dxf(lines):
         entity[code] = value
 
 
-def dxf_by_ezdxf(paths):
+def dxf_by_ezdxf(paths: Sequence[str]) -> list[list[Run]]:
     return [[(width_in(layer), points) for layer, points in json.loads(line)] for line in run_by(python_with("ezdxf"), BY_EZDXF, paths)]
 
 
-def plain_obj(paths):
+def plain_obj(paths: Sequence[str]) -> list[list[Run]]:
     return [list(runs_of_obj(text_at(path).splitlines())) for path in paths]
 
 
-def runs_of_obj(lines):
-    points, width = [], None
+def runs_of_obj(lines: list[str]) -> Iterator[Run]:
+    points: list[Point] = []
+    width = 0
     for line in lines:
         word, *rest = line.split()
         if word == "v":
@@ -176,7 +187,7 @@ def runs_of_obj(lines):
             yield width, [points[int(place) - 1] for place in rest]
 
 
-def by_assimp(path):
+def by_assimp(path: str) -> Any:
     """The meshes of a file, as assimp reads them."""
     out = path + ".json"
     subprocess.run(["assimp", "export", path, out, "-fassjson"], stdout=subprocess.DEVNULL, check=True)
@@ -184,24 +195,24 @@ def by_assimp(path):
         return json.load(file)["meshes"]
 
 
-def in_threes(values):
+def in_threes(values: Sequence[Any]) -> list[Any]:
     return list(zip(values[::3], values[1::3], values[2::3]))
 
 
-def obj_by_assimp(paths):
+def obj_by_assimp(paths: Sequence[str]) -> list[list[Run]]:
     return [[(width_in(mesh["name"]), [points[end] for end in face]) for mesh in by_assimp(path) for points in [in_threes(mesh["vertices"])] for face in mesh["faces"]]
             for path in paths]
 
 
-def tubes_by_assimp(paths):
+def tubes_by_assimp(paths: Sequence[str]) -> list[list[Run]]:
     return [[run for mesh in by_assimp(path) for run in tubes_of(mesh["name"], in_threes(mesh["vertices"]), in_threes(mesh["normals"]), mesh["faces"])] for path in paths]
 
 
-def plain_tubes(paths):
+def plain_tubes(paths: Sequence[str]) -> list[list[Run]]:
     return [list(runs_of_glb(path)) for path in paths]
 
 
-def runs_of_glb(path):
+def runs_of_glb(path: str) -> Iterator[Run]:
     """The tubes of a file of glTF, of one text or of bytes."""
     with open(path, "rb") as file:
         data = file.read()
@@ -212,7 +223,7 @@ def runs_of_glb(path):
         told = json.loads(data)
         numbers = base64.b64decode(told["buffers"][0]["uri"].partition(",")[2])
 
-    def values(number):
+    def values(number: int) -> tuple[Any, ...]:
         view, kind = told["bufferViews"][told["accessors"][number]["bufferView"]], {5126: "f", 5125: "I"}[told["accessors"][number]["componentType"]]
         return struct.unpack_from("<%d%s" % (view["byteLength"] // 4, kind), numbers, view["byteOffset"])
     for mesh in told.get("meshes", []):
@@ -221,7 +232,7 @@ def runs_of_glb(path):
         yield from tubes_of(mesh["name"], places, outward, in_threes(values(primitive["indices"])))
 
 
-def tubes_of(name, places, outward, faces, sides=8):
+def tubes_of(name: str, places: list[Point], outward: list[Point], faces: Sequence[Sequence[int]], sides: int = 8) -> Iterator[Run]:
     """The segments along which tubes go: from the middle of a ring to that of the next one that triangles lead to. Each point of a ring has to be
     as far from the tube's middle as its width says."""
     middles = [tuple(sum(place[axis] for place in places[first:first + sides]) / sides for axis in range(3)) for first in range(0, len(places), sides)]
@@ -234,11 +245,11 @@ def tubes_of(name, places, outward, faces, sides=8):
             yield width, [middles[ring] for ring in rings]
 
 
-def check_ring(places, outward, firsts, start, stop, width):
+def check_ring(places: list[Point], outward: list[Point], firsts: Sequence[int], start: Point, stop: Point, width: float) -> None:
     """Raises where a ring isn't around the line from start to stop, in the distance of half a tenth of its width."""
     away = [to - at for at, to in zip(start, stop)]
     length = math.sqrt(sum(value * value for value in away))
-    far = max(max(map(abs, start)), max(map(abs, stop)), 1)
+    far = max(abs(value) for value in (*start, *stop, 1))
     # What a reader rounds has no direction.
     if length <= 1e-6 * far:
         return
@@ -252,23 +263,23 @@ def check_ring(places, outward, firsts, start, stop, width):
                 raise RuntimeError("a ring is %g from its line, and leans %g" % (distance, leans))
 
 
-def seen_in_png(asked):
+def seen_in_png(asked: list[Any]) -> list[Any]:
     """Of each PNG, named with places: its size, how opaque its corners are, how much ink is at the places, and some of the points that have ink."""
-    python = python_with("PIL")
+    python = python_with("PIL") or sys.executable
     ran = subprocess.run([python, "-c", BY_PILLOW], input=json.dumps(asked).encode(), stdout=subprocess.PIPE, check=True)
     return list(map(json.loads, ran.stdout.splitlines()))
 
 
-def has_inkex():
+def has_inkex() -> bool:
     if not os.path.isdir(os.path.join(INKEX, "inkex")):
         return False
     return subprocess.run(["/usr/bin/python3", "-c", "import inkex"], env={**os.environ, "PYTHONPATH": INKEX}, stderr=subprocess.DEVNULL).returncode == 0
 
 
-def lacks(program, package):
+def lacks(program: str, package: str) -> str:
     """What is said where a program isn't in PATH."""
     return "" if shutil.which(program) else "%s isn't installed (in Debian: %s)" % (program, package)
 
 
-def lacks_module(module, package):
+def lacks_module(module: str, package: str) -> str:
     return "" if python_with(module) else "%s isn't installed (in Debian: %s)" % (module, package)

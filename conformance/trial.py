@@ -1,4 +1,7 @@
 """A trial of the page of tools/look: the tool with a script, a page of it in a browser, and what is expected of what the page shows."""
+
+from __future__ import annotations
+
 import os
 import re
 import shutil
@@ -6,8 +9,11 @@ import signal
 import subprocess
 import tempfile
 import time
+from collections.abc import Callable, Iterable
+from typing import Any
 
 from asking import Client
+from browser import Browser
 from patience import PATIENCE, waited
 from programs import TOP
 ISLAND = "axiom F-F-F-F\nproduction f: F => F-F+F+FF-F-F+F\nproduction g: G => GG\ndepth 2\nsvg\n"
@@ -25,7 +31,7 @@ return {script: look.lines().join('\\n').toWellFormed(), lines: Number(canvas.da
 """
 
 
-def address_from(said):
+def address_from(said: Iterable[str]) -> str:
     """The address that tools/look prints."""
     for line in said:
         found = re.search("http://[^ ]*", line)
@@ -37,11 +43,13 @@ def address_from(said):
 class Trial:
     """tools/look with a script, a page of it, and what is expected of it."""
 
-    def __init__(self, browser, program, keep):
+    def __init__(self, browser: Browser, program: str, keep: str | None) -> None:
         self.browser, self.program, self.keep = browser, program, keep
-        self.failed, self.made, self.look, self.folder = 0, 0, None, None
+        self.failed, self.made, self.folder = 0, 0, ""
+        # The running tools/look, or None.
+        self.look: Any = None
 
-    def begin(self, script=None, *words):
+    def begin(self, script: str | None = None, *words: str) -> None:
         """Starts tools/look with a script, and opens its page."""
         self.end()
         self.folder = tempfile.mkdtemp(prefix="lsys-look-")
@@ -51,16 +59,16 @@ class Trial:
         named = [self.path] if script is not None else []
         self.look = subprocess.Popen([os.path.join(TOP, "tools", "look"), *named, "--program", self.program, "--no-browser", *words],
                                      cwd=self.folder, stderr=subprocess.PIPE, text=True)
-        self.address = address_from(self.look.stderr)
+        self.address = address_from(self.look.stderr or ())
         self.browser.errors()
         self.browser.open(self.address)
         self.expect("the page comes", lambda page: page["name"] != "lsys", False)
 
-    def address_again(self):
+    def address_again(self) -> str:
         """Where the page is opened in a browser that has its cookie."""
         return self.address.partition("?")[0]
 
-    def end(self):
+    def end(self) -> None:
         if self.look and self.look.poll() is None:
             self.look.send_signal(signal.SIGINT)
             try:
@@ -73,41 +81,45 @@ class Trial:
             self.look.stderr.close()
         if self.folder:
             shutil.rmtree(self.folder)
-        self.look = self.folder = None
+        self.look, self.folder = None, ""
 
-    def save(self, script):
+    def save(self, script: str) -> None:
         with open(self.path, "w", newline="") as file:
             file.write(script)
 
-    def page(self):
+    def page(self) -> dict[str, Any]:
         try:
             return self.browser.run(PAGE)
         except RuntimeError as error:
             return {"name": "lsys", "error": str(error)}
 
-    def told(self, what, holds, shown=""):
+    def told(self, what: str, holds: object, shown: object = "") -> None:
         self.made += 1
         self.failed += not holds
         print("  %s: %s" % (what, "yes" if holds else "NO, it shows %s" % str(shown)[:900]), flush=True)
 
-    def expect(self, what, holds, is_told=True):
+    def expect(self, what: str, holds: Callable[[Any], object], is_told: bool = True) -> dict[str, Any]:
         """Waits until the page shows what it should."""
-        is_so = lambda page: "error" not in page and bool(holds(page))
+
+        def is_so(page: dict[str, Any]) -> bool:
+            return "error" not in page and bool(holds(page))
+
         page = waited(self.page, is_so)
         if is_told or not is_so(page):
             self.told(what, is_so(page), page)
         return page
 
-    def seen(self, script, holds=bool):
+    def seen(self, script: str, holds: Callable[[Any], object] = bool) -> Any:
         """What a script of the page gives, once it holds."""
         return waited(lambda: self.browser.run(script), holds)
 
-    def at_rest(self, selector):
+    def at_rest(self, selector: str) -> list[float]:
         """The top and the bottom of an element once it moves no more and no picture above it is on its way, and the height of what is seen."""
         # What is far below isn't fetched before one comes there.
         script = ("const box = document.querySelector('%s').getBoundingClientRect(), isAbove = each => each.getClientRects().length && each.getBoundingClientRect().top <= box.bottom;"
                   " return [Array.from(document.images).some(each => !each.complete && isAbove(each)), box.top, box.bottom, innerHeight]" % selector)
-        before = None
+        before: Any = None
+        place: Any = None
         self.seen("return Boolean(document.querySelector('%s'))" % selector)
         for _ in range(100):
             place = self.browser.run(script)
@@ -115,28 +127,28 @@ class Trial:
                 break
             before = place
             time.sleep(0.1)
-        return place[1:]
+        return list(place[1:])
 
-    def is_quiet(self):
+    def is_quiet(self) -> None:
         complaints = [line for line in self.browser.errors() if "Failed to load resource" not in line]
         self.told("the page complains of nothing", not complaints, complaints)
 
-    def shot(self, name):
+    def shot(self, name: str) -> None:
         if self.keep:
             self.browser.picture_of_page(os.path.join(self.keep, name + ".png"))
 
-    def caret_to(self, line, column):
+    def caret_to(self, line: int, column: int) -> None:
         """Puts the cursor into the text, at a line from 0."""
         self.browser.run("const field = lookPage.field; field.focus(); if (field.field) field.field.setCursor(%d, %d); else {"
                          " const lines = field.lines(); let at = %d; for (let n = 0; n < %d; n++) at += lines[n].length + 1; field.area.setSelectionRange(at, at); }"
                          % (line, column, column, line))
 
-    def client(self):
+    def client(self) -> Client:
         """A client that has what the page has."""
         client = Client(self.address)
         client.own = {"Cookie": self.browser.cookies(), "X-Token": self.browser.run("return document.querySelector('meta[name=token]').content")}
         return client
 
-    def programs(self):
+    def programs(self) -> list[str]:
         """The numbers of the processes that tools/look has started."""
         return subprocess.run(["ps", "-o", "pid=", "--ppid", str(self.look.pid)], stdout=subprocess.PIPE, text=True).stdout.split()

@@ -29,6 +29,7 @@ from session import Session
 from telling import Words, give_up, port, say
 from watching import Watching
 
+
 def server_at(number: int) -> Server:
     """A server at a port of this machine alone."""
     try:

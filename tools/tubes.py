@@ -126,7 +126,8 @@ class Mesh:
                 self.cap(place, turned, after, False)
             if not is_straight and after is not None:
                 last = self.ring(place, turned if ends else cut, turned)
-            along, ring = after, turned
+            if after is not None:
+                along, ring = after, turned
 
 
 def directions_of(points: Sequence[Vector]) -> list[Vector]:

@@ -1,4 +1,7 @@
 """Builds a program of this folder over the crates of this checkout, without proofs."""
+
+from __future__ import annotations
+
 import os
 import shutil
 import sys
@@ -11,11 +14,11 @@ from building import build_without_proofs
 USED = ["lsys_syntax", "lsys_spec", "lsys_text", "lsys_module", "lsys_region", "lsys_level", "lsys_forest"]
 
 
-def needed(needs, names):
+def needed(needs: dict[str, list[str]], names: list[str]) -> list[str]:
     """These crates and those that they stand on, where the list of crates has them."""
     found = []
 
-    def visit(name):
+    def visit(name: str) -> None:
         if name in needs and name not in found:
             found.append(name)
             for below in needs[name]:
@@ -26,7 +29,7 @@ def needed(needs, names):
     return found
 
 
-def lay_out(name, folder):
+def lay_out(name: str, folder: str) -> str:
     """Makes a repository of the program and the sources of the crates that it needs."""
     needs = {}
     with open(os.path.join(TOP, "crates.txt")) as file:
@@ -49,6 +52,6 @@ def lay_out(name, folder):
     return program
 
 
-def build(name, folder):
+def build(name: str, folder: str) -> str:
     """The path of the program, which is built in this folder, and fast where the toolchain gives it."""
     return build_without_proofs(lay_out(name, folder), folder)[0]

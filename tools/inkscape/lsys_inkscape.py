@@ -5,10 +5,13 @@ one width.
 The group keeps its script, so that running the extension on it, with no other script given, draws it anew. Nothing is derived here:
 the program is asked. Where a line is refused, nothing is drawn, and the refusal is shown with the line and a caret.
 """
+from __future__ import annotations
+
 import os
 import re
 import shutil
 import sys
+from typing import Any
 
 import inkex
 
@@ -16,7 +19,7 @@ HERE = os.path.dirname(os.path.realpath(__file__))
 sys.dont_write_bytecode = True
 # Beside this file where it is installed, and in the folder above where it stands in the repository.
 sys.path[:0] = [HERE, os.path.dirname(HERE)]
-from figure import PLANE, Refused, box_of, figure_of, number, path_of
+from figure import PLANE, Figure, Refused, box_of, figure_of, number, path_of
 from replies import caret_inside
 
 SCRIPT = "lsys-script"
@@ -35,7 +38,7 @@ class Unable(Exception):
     """Nothing can be drawn; the words are for a person."""
 
 
-def program_at(preferred):
+def program_at(preferred: str) -> str:
     """The program: the one that is named, or the first that is found."""
     if preferred:
         if os.path.isfile(preferred) and os.access(preferred, os.X_OK):
@@ -48,28 +51,28 @@ def program_at(preferred):
     return found
 
 
-def script_of(group):
+def script_of(group: Any) -> str | None:
     """The script that a group keeps, or None."""
     kept = group.find("svg:metadata", namespaces=inkex.NSS)
     return kept.text if kept is not None and kept.get("id", "").startswith(SCRIPT) else None
 
 
 class Draw(inkex.EffectExtension):
-    def add_arguments(self, parser):
+    def add_arguments(self, parser: Any) -> None:
         for name in ("tab", "file", "text", "program"):
             parser.add_argument("--" + name, default="")
         for name, kind, usual in (("level", int, -1), ("step", float, 2.0), ("line", float, 0.2), ("tell", inkex.Boolean, False), ("limit", int, 100000)):
             parser.add_argument("--" + name, type=kind, default=usual)
 
-    def effect(self):
+    def effect(self) -> None:
         try:
             kept = [element for element in self.svg.selection if script_of(element) is not None]
             if self.options.tell:
-                raise Unable("\n\n".join(map(script_of, kept)) or "No figure of lsys is selected.")
+                raise Unable("\n\n".join(script_of(element) or "" for element in kept) or "No figure of lsys is selected.")
             given = self.given_script()
             if given is None and not kept:
                 raise Unable("There is no script: name a file, write one, or select a figure of lsys.")
-            jobs = [(element, script_of(element) if given is None else given) for element in kept] or [(None, given)]
+            jobs = [(element, (script_of(element) if given is None else given) or "") for element in kept] or [(None, given or "")]
             figures = [(element, script, self.figure(script)) for element, script in jobs]
         except Unable as why:
             inkex.errormsg(str(why))
@@ -85,7 +88,7 @@ class Draw(inkex.EffectExtension):
             else:
                 self.put(element, group)
 
-    def given_script(self):
+    def given_script(self) -> str | None:
         """The script of the dialog, or None where it has none."""
         text = LINE_END.sub("\n", self.options.text)
         if text.strip():
@@ -101,11 +104,11 @@ class Draw(inkex.EffectExtension):
             inkex.errormsg("A byte order mark stood at the head of %s: it is left out." % self.options.file)
         return script.removeprefix(MARK)
 
-    def figure(self, script):
+    def figure(self, script: str) -> Figure:
         level = self.options.level if self.options.level >= 0 else None
         return figure_of(program_at(self.options.program), script.encode(), level, ["--limit", str(self.options.limit)])
 
-    def group_of(self, figure, script):
+    def group_of(self, figure: Figure, script: str) -> Any:
         step, line = (self.svg.unittouu("%fmm" % length) for length in (self.options.step, self.options.line))
         group = inkex.Group()
         group.set("style", "fill:none;stroke:#000000;stroke-linecap:round;stroke-linejoin:round")
@@ -120,7 +123,7 @@ class Draw(inkex.EffectExtension):
             group.append(path)
         return group
 
-    def add(self, group, box):
+    def add(self, group: Any, box: list[str]) -> None:
         """Puts the middle of a figure into the middle of what one sees, or of the page."""
         left, top, width, height = map(float, box)
         view = self.svg.namedview
@@ -128,7 +131,7 @@ class Draw(inkex.EffectExtension):
         group.set("transform", "translate(%s,%s)" % (number(x - left - width / 2), number(y - top - height / 2)))
         self.svg.get_current_layer().append(group)
 
-    def put(self, element, group):
+    def put(self, element: Any, group: Any) -> None:
         """Puts a figure in the place of the one that it replaces."""
         if element.get("transform"):
             group.set("transform", element.get("transform"))
