@@ -52,7 +52,9 @@ class Browser:
         self.address = "http://127.0.0.1:%s/session" % line.rstrip(".\n").split()[-1]
         words = ["--headless=new", "--no-sandbox", "--disable-gpu", "--window-size=1400,1000"]
         chosen = {"args": words, "prefs": {"download.default_directory": self.folder, "download.prompt_for_download": False}}
-        value = self.call("", {"capabilities": {"alwaysMatch": {"goog:chromeOptions": chosen, "goog:loggingPrefs": {"browser": "ALL"}, "timeouts": {"script": 1000 * LONGEST, "pageLoad": 1000 * LONGEST}, "unhandledPromptBehavior": "ignore"}}})
+        value = self.call("", {"capabilities": {"alwaysMatch": {"goog:chromeOptions": chosen, "goog:loggingPrefs": {"browser": "ALL"},
+                                                                "timeouts": {"script": 1000 * LONGEST, "pageLoad": 1000 * LONGEST},
+                                                                "unhandledPromptBehavior": "ignore"}}})
         self.session = "/" + value["sessionId"]
         self.tell("Emulation.setFocusEmulationEnabled", {"enabled": True})
 

@@ -22,7 +22,8 @@ def walk(trial: Trial) -> None:
     trial.expect("with less depth it has 32", lambda page: page["lines"] == 32 and "depth 1" in page["script"] and page["depth"] == "1")
     trial.caret_to(3, "production f: F => F-F+F".index("+") + 1)
     browser.keys("Backspace", "-")
-    before = trial.expect("a + of the production is a -", lambda page: "F => F-F-F+FF" in page["script"] and page["counts"] == "4/4" and page["lines"] == 32 and not page["pending"])
+    before = trial.expect("a + of the production is a -",
+                          lambda page: "F => F-F-F+FF" in page["script"] and page["counts"] == "4/4" and page["lines"] == 32 and not page["pending"])
     browser.run("document.getElementById('picture').focus()")
     browser.keys("+", "Right")
     trial.expect("it is seen from nearer and moved", lambda page: page["view"][0] > 1.2 * before["view"][0] and page["fitted"] == "false")
@@ -50,19 +51,23 @@ def typing(trial: Trial) -> None:
     trial.expect("a wrong line is refused, and the picture stays", lambda page: page["lines"] == 256 and page["stale"] and page["refused"]
                         and page["refused"][0].startswith("refused syntax token 35: "))
     trial.shot("refused")
-    colour = browser.run("return [getComputedStyle(document.querySelector('.caret-reply')).color, getComputedStyle(document.querySelector('#picture')).opacity]")
+    colour = browser.run("return [getComputedStyle(document.querySelector('.caret-reply')).color, "
+                         "getComputedStyle(document.querySelector('#picture')).opacity]")
     trial.told("the refusal is red and the picture grey", colour == ["rgb(176, 0, 32)", "0.3"], colour)
-    places = browser.run("const sign = document.querySelector('.caret-sign').getBoundingClientRect(), cm = lookPage.field.field, box = cm.charCoords({line: 1, ch: 33}, 'window');"
+    places = browser.run("const sign = document.querySelector('.caret-sign').getBoundingClientRect(), cm = lookPage.field.field, box = "
+                         "cm.charCoords({line: 1, ch: 33}, 'window');"
                          "return [sign.left, box.right, sign.top, box.top]")
     trial.told("the caret is under its column", abs(places[0] - places[1]) < 6 and places[2] > places[3], places)
     browser.keys("Backspace")
-    trial.expect("the mended line's reply is another one", lambda page: not page["refused"] and not page["stale"] and "ok 0/36" in page["replies"] and page["lines"] == 256)
+    trial.expect("the mended line's reply is another one",
+                 lambda page: not page["refused"] and not page["stale"] and "ok 0/36" in page["replies"] and page["lines"] == 256)
     browser.keys("Backspace", "Backspace")
     trial.expect("the changed line is sent alone", lambda page: page["how"] == "edited" and page["counts"] == "32/32"
                  and [line for line, _ in page["sent"]] == ["production f: F => F-F+F+FF-F-F"])
     trial.caret_to(2, 0)
     browser.keys("Shift+Down", "Delete")
-    trial.expect("a line that is gone is dropped", lambda page: page["sent"] == [["drop g", "ok 0/32"]] and page["how"] == "edited" and len(page["replies"]) == 4)
+    trial.expect("a line that is gone is dropped", lambda page: page["sent"] == [["drop g", "ok 0/32"]] and page["how"] == "edited"
+                 and len(page["replies"]) == 4)
     trial.caret_to(3, 10)
     browser.keys("Enter")
     browser.type("depth 3")
@@ -75,7 +80,8 @@ def typing(trial: Trial) -> None:
     trial.expect("a query is answered", lambda page: page["answer"].strip() == "F-F-F-F")
     trial.caret_to(0, 100)
     browser.keys("+", "F", "Control+s")
-    trial.expect("what was typed just before is saved", lambda page: page["kept"] == "saved" and open(trial.path).read() == page["script"] and "axiom F-F-F-F+F\n" in page["script"])
+    trial.expect("what was typed just before is saved",
+                 lambda page: page["kept"] == "saved" and open(trial.path).read() == page["script"] and "axiom F-F-F-F+F\n" in page["script"])
     trial.is_quiet()
 
 
@@ -84,7 +90,8 @@ def dragging(trial: Trial) -> None:
     browser = trial.browser
     trial.begin("axiom F(3)+F(2)\ndepth 0\nsvg\n")
     trial.expect("two lines", lambda page: page["lines"] == 2)
-    box = browser.run("const box = document.querySelector('.cm-number').getBoundingClientRect(); return [Math.round(box.left + box.width / 2), Math.round(box.top + box.height / 2)]")
+    box = browser.run("const box = document.querySelector('.cm-number').getBoundingClientRect(); return [Math.round(box.left + box.width / 2), "
+                      "Math.round(box.top + box.height / 2)]")
     browser.drag(box, [(8, 0)] * 5)
     trial.expect("a number is dragged to 8", lambda page: page["script"].startswith("axiom F(8)+F(2)") and page["how"] == "edited"
                  and "ok 0/0" in page["replies"] and not page["pending"])
@@ -98,7 +105,8 @@ def dragging(trial: Trial) -> None:
     browser.run("lookPage.put(['lattice hexagonal', ...lookPage.lines()], '')")
     trial.expect("the lattice is another one", lambda page: page["lattice"] == "hexagonal")
     browser.run("for (let n = 0; n < 200; n++) lookPage.setNumber(1, 8, n)")
-    trial.expect("of two hundred values the last one stays", lambda page: page["script"].split("\n")[1] == "axiom F(199)+F(2)" and not page["pending"])
+    trial.expect("of two hundred values the last one stays",
+                 lambda page: page["script"].split("\n")[1] == "axiom F(199)+F(2)" and not page["pending"])
 
 
 def levels(trial: Trial) -> None:
@@ -122,7 +130,8 @@ def levels(trial: Trial) -> None:
     browser.click("#more_depth")
     trial.expect("more depth", lambda page: page["lines"] == 2048)
     browser.run("window.seen = []; let last = document.getElementById('level_value').textContent;"
-                " new MutationObserver(() => { const value = document.getElementById('level_value').textContent; if (last !== value) seen.push(last = value); }).observe(document.getElementById('level_value'), {childList: true, characterData: true, subtree: true})")
+                " new MutationObserver(() => { const value = document.getElementById('level_value').textContent; if (last !== value) seen.push(last "
+                "= value); }).observe(document.getElementById('level_value'), {childList: true, characterData: true, subtree: true})")
     browser.keys("Alt+p")
     seen = trial.seen("return window.seen", lambda seen: seen[-1:] == ["3 of 3"])
     trial.told("play goes from level 0 to the depth", seen == ["0 of 3", "1 of 3", "2 of 3", "3 of 3"], seen)
@@ -130,7 +139,8 @@ def levels(trial: Trial) -> None:
     browser.run("lookPage.put(lookPage.lines().map(line => line === 'svg' ? 'string 64' : line), '')")
     trial.expect("a level that there isn't is refused", lambda page: page["refused"] and page["refused"][0].startswith("refused level 8"))
     browser.run("lookPage.put(lookPage.lines().map(line => line === 'string 64' ? 'string' : line.replace('depth 3', 'depth 4')), '')")
-    trial.expect("a long reply is cut beside its line", lambda page: page["lines"] == 16384 and any(reply.endswith(" ..") for reply in page["replies"]))
+    trial.expect("a long reply is cut beside its line",
+                 lambda page: page["lines"] == 16384 and any(reply.endswith(" ..") for reply in page["replies"]))
 
 
 def pictures(trial: Trial) -> None:
@@ -145,7 +155,8 @@ def pictures(trial: Trial) -> None:
     browser.click("#line")
     browser.type("seed 7")
     browser.keys("Enter")
-    trial.expect("a line below the text that is no query changes nothing, and is told so", lambda page: "is no query, and nothing was changed" in page["answer"] and "seed" not in page["script"])
+    trial.expect("a line below the text that is no query changes nothing, and is told so",
+                 lambda page: "is no query, and nothing was changed" in page["answer"] and "seed" not in page["script"])
 
 
 def space(trial: Trial) -> None:
@@ -168,7 +179,8 @@ def space(trial: Trial) -> None:
                 " lookPage.put(['lattice ' + (count % 2 ? 'cubic' : 'square'), 'axiom ' + 'F&'.repeat(count % 7 + 1), 'depth 0', 'svg'], '');"
                 " if (count === 40) clearInterval(timer); }, 5)")
     trial.seen("return window.count === 40")
-    trial.expect("a race ends with what was wanted last", lambda page: page["lattice"] == "square" and page["lines"] == 40 % 7 + 1 and not page["pending"])
+    trial.expect("a race ends with what was wanted last",
+                 lambda page: page["lattice"] == "square" and page["lines"] == 40 % 7 + 1 and not page["pending"])
     trial.is_quiet()
 
 
@@ -176,10 +188,12 @@ def plain(trial: Trial) -> None:
     """The plain field."""
     browser = trial.browser
     trial.begin(ISLAND, "--plain")
-    trial.expect("the island is drawn, its replies below", lambda page: page["lines"] == 256 and "line 4: asked anew 36 of 36" in page["plain"] and "1\n2\n3" in page["plain"])
+    trial.expect("the island is drawn, its replies below",
+                 lambda page: page["lines"] == 256 and "line 4: asked anew 36 of 36" in page["plain"] and "1\n2\n3" in page["plain"])
     trial.caret_to(1, 33)
     browser.type("(")
-    trial.expect("a refusal with its line and a caret", lambda page: page["stale"] and "refused syntax token 35" in page["plain"] and "\n" + " " * 34 + "^" in page["plain"])
+    trial.expect("a refusal with its line and a caret",
+                 lambda page: page["stale"] and "refused syntax token 35" in page["plain"] and "\n" + " " * 34 + "^" in page["plain"])
     colour = browser.run("return getComputedStyle(document.querySelector('.plain-replies .refused')).color")
     trial.told("in red", colour == "rgb(176, 0, 32)", colour)
     trial.shot("plain")
@@ -197,16 +211,19 @@ def places(trial: Trial) -> None:
     browser = trial.browser
     trial.begin("axiom %s$F\n" % ("F" * 300))
     trial.expect("it is refused", lambda page: page["refused"] and page["refused"][0].startswith("refused syntax byte 307"))
-    found = browser.run("const part = document.querySelector('.caret-part').textContent, front = document.querySelector('.caret-front').textContent; return part[front.length]")
+    found = browser.run("const part = document.querySelector('.caret-part').textContent, front = "
+                        "document.querySelector('.caret-front').textContent; return part[front.length]")
     trial.told("the part around it stands above the caret, under the sign that is wrong", found == "$", found)
     trial.shot("long")
     browser.run("lookPage.put([';', 'axiom F\u00e9\u20ac$'], '')")
-    trial.expect("a sign of two bytes is refused", lambda page: page["refused"] and page["refused"][0].startswith("refused syntax byte 8") and page["script"].endswith("F\u00e9\u20ac$"))
+    trial.expect("a sign of two bytes is refused", lambda page: page["refused"] and page["refused"][0].startswith("refused syntax byte 8")
+                 and page["script"].endswith("F\u00e9\u20ac$"))
     trial.begin("")
     with open(trial.path, "wb") as file:
         file.write(b"; \xff\xfe is no text\naxiom F+F\nsvg\n")
     trial.expect("bytes that are no text are taken", lambda page: page["lines"] == 2)
-    browser.run("lookPage.gallery.open && document.getElementById('gallery').close(); lookPage.put(lookPage.lines().map(line => line.replace('F+F', 'F')), '')")
+    browser.run("lookPage.gallery.open && document.getElementById('gallery').close(); lookPage.put(lookPage.lines().map(line => line.replace('F+F', "
+                "'F')), '')")
     trial.expect("changed", lambda page: page["lines"] == 1 and not page["pending"])
     browser.keys("Control+s")
     trial.expect("and stay what they are", lambda page: open(trial.path, "rb").read() == b"; \xff\xfe is no text\naxiom F\nsvg\n")
@@ -237,7 +254,8 @@ def shown(trial: Trial) -> None:
         line, text = choice.randrange(8), choice.choice(["F", "(", "+", "\\n", "\\nsvg\\n", "9", " ", "$", "", "", "", "", "hom h: F => FF\\n"])
         end = "{line, ch}" if text else "{line: Math.min(last, line + %d), ch}" % choice.randrange(2)
         browser.run("const field = lookPage.field.field, last = field.lastLine(), line = Math.min(%d, last);"
-                    " const ch = Math.min(%d, field.getLine(line).length); field.replaceRange('%s', {line, ch}, %s)" % (line, choice.randrange(30), text, end))
+                    " const ch = Math.min(%d, field.getLine(line).length); field.replaceRange('%s', {line, ch}, %s)"
+                    % (line, choice.randrange(30), text, end))
         if turn % 7 == 6:
             browser.click(choice.choice(["#undo", "#more_depth", "#less_depth"]) if turn < 50 else "#undo")
         trial.seen("return !lookPage.desk.isPending() && !lookPage.desk.isSending")
@@ -256,8 +274,10 @@ def widths(trial: Trial) -> None:
             trial.begin(ISLAND)
             browser.size(width, height)
             trial.expect("drawn at %d columns" % width, lambda page: page["lines"] == 256)
-            found = browser.run("return [document.documentElement.scrollWidth, innerWidth, ...Array.from(document.querySelectorAll('button, summary, input'))"
-                                ".filter(each => each.offsetParent && (each.getBoundingClientRect().right > innerWidth + 1 || each.getBoundingClientRect().left < -1))"
+            found = browser.run("return [document.documentElement.scrollWidth, innerWidth, ...Array.from(document.querySelectorAll('button, "
+                                "summary, input'))"
+                                ".filter(each => each.offsetParent && (each.getBoundingClientRect().right > innerWidth + 1 || "
+                                "each.getBoundingClientRect().left < -1))"
                                 ".map(each => each.id)]")
             trial.told("nothing is wider than %d columns" % width, found[0] <= width and len(found) == 2, found)
             trial.shot("page_%d" % width)

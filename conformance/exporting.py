@@ -24,7 +24,8 @@ CROSS = "lattice cubic\naxiom !(10)F(4)f(-2)^f(3)&-f(-2)F(4)\nsvg\n"
 SHADES = """
 const { picture } = lookPage, { points, view, canvas } = picture, pen = canvas.getContext('2d'), dense = devicePixelRatio || 1, found = [];
 for (let at = 0; at < picture.data.count; at++) {
-  const part = %s, x = points[4 * at] + part * (points[4 * at + 2] - points[4 * at]), y = points[4 * at + 1] + part * (points[4 * at + 3] - points[4 * at + 1]);
+  const part = %s, x = points[4 * at] + part * (points[4 * at + 2] - points[4 * at]),
+    y = points[4 * at + 1] + part * (points[4 * at + 3] - points[4 * at + 1]);
   const values = pen.getImageData(Math.round(dense * (view.x + view.scale * x)), Math.round(dense * (view.y + view.scale * y)), 1, 1).data;
   found.push(values[3] ? values[0] + values[1] + values[2] : -1);
 }
@@ -42,7 +43,8 @@ def fetched(trial: Trial, kind: str, name: str) -> bytes:
 def of_tool(trial: Trial, kind: str, *words: str) -> bytes:
     """The file that tools/export writes of the same script."""
     out = os.path.join(trial.folder, "tool." + kind)
-    ran = subprocess.run([os.path.join(TOP, "tools", "export"), trial.path, out, "--program", trial.program, *words], stderr=subprocess.PIPE, text=True)
+    ran = subprocess.run([os.path.join(TOP, "tools", "export"), trial.path, out, "--program", trial.program, *words], stderr=subprocess.PIPE,
+                         text=True)
     if ran.returncode:
         return ran.stderr.encode()
     with open(out, "rb") as file:
@@ -125,7 +127,8 @@ def png(trial: Trial) -> None:
         trial.expect("the island is drawn", lambda page: page["lines"] == 256)
         found = png_of(fetched(trial, "png", "island.png"))
         trial.told("a PNG of 2400 points, its ground transparent", found and max(found[0]) == 2400 and found[1] == (0, 0, 0, 0), found)
-        trial.expect("which the browser draws where there is no rsvg-convert, and that is told", lambda page: ("browser drew" in page["notice"]) == is_bare)
+        trial.expect("which the browser draws where there is no rsvg-convert, and that is told",
+                     lambda page: ("browser drew" in page["notice"]) == is_bare)
         browser.click("#export summary")
         browser.run("document.getElementById('png_size').value = 300")
         browser.click("#png_clear")
@@ -165,7 +168,8 @@ def shaded(trial: Trial) -> None:
     trial.told("seen from behind, the other one is paler", first > far + 60, (first, far))
     found, view = fetched(trial, "svg", "island.svg"), trial.page()["view"]
     words = ["--%s=%.4f" % (word, angle * 180 / 3.141592653589793 % 360) for word, angle in (("turn", view[3]), ("tilt", view[4]))]
-    trial.told("its SVG is turned as it is seen", points_of(found)[0] == points_of(of_tool(trial, "svg", *words))[0] and is_like(found, of_tool(trial, "svg", *words)), words)
+    trial.told("its SVG is turned as it is seen", points_of(found)[0] == points_of(of_tool(trial, "svg", *words))[0]
+               and is_like(found, of_tool(trial, "svg", *words)), words)
     browser.run("lookPage.put(arguments[0].split('\\n'), '')", CROSS)
     trial.expect("a cross of two lines", lambda page: page["lines"] == 2 and not page["pending"])
     for tilt in (1, -1):
@@ -179,7 +183,8 @@ def shaded(trial: Trial) -> None:
 
 def is_like(one: bytes, other: bytes) -> bool:
     """Whether two drawings have the same points, but for what is rounded."""
-    values = [[float(value) for path in xml.etree.ElementTree.fromstring(data).iter(NAMESPACE + "path") for pair in path.get("d", "")[1:].rstrip("Z").split() for value in pair.split(",")]
+    values = [[float(value) for path in xml.etree.ElementTree.fromstring(data).iter(NAMESPACE + "path")
+               for pair in path.get("d", "")[1:].rstrip("Z").split() for value in pair.split(",")]
               for data in (one, other)]
     return len(values[0]) == len(values[1]) and all(abs(a - b) < 0.01 for a, b in zip(*values))
 

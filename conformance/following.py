@@ -55,7 +55,8 @@ def following(trial: Trial) -> None:
             fresh.close()
             before, lines = lines, changed_lines(choice, lines, others)
         session.close()
-    trial.told("of %d scripts %d were followed by edits, and all mean the same" % (followed, edited), not differing and edited > followed / 3, differing[:1])
+    trial.told("of %d scripts %d were followed by edits, and all mean the same" % (followed, edited), not differing and edited > followed / 3,
+               differing[:1])
 
 
 def coming_back(trial: Trial) -> None:

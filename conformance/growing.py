@@ -18,9 +18,11 @@ from trial import Trial
 
 TOP = os.path.dirname(os.path.dirname(os.path.abspath(__file__)))
 ISLAND = "axiom F-F-F-F\nproduction f: F => F-F+F+FF-F-F+F\nproduction g: G => GG\ndepth 3\nsvg\n"
-PLANT = "lattice hexagonal\naxiom !(2)+A(3)\nproduction a: A(n) : n > 0 => F(n)[+A(n-1)]A(n-1)\nproduction f: F(n) => F(n+1)\nhom up: F(n) => F(n)+f-\ndepth 3\nsvg\n"
+PLANT = ("lattice hexagonal\naxiom !(2)+A(3)\nproduction a: A(n) : n > 0 => F(n)[+A(n-1)]A(n-1)\nproduction f: F(n) => F(n+1)\nhom up: F(n) => "
+         "F(n)+f-\ndepth 3\nsvg\n")
 SEEN = ("window.seen = []; new MutationObserver(() => { const value = document.getElementById('level_value').textContent;"
-        " if (seen.at(-1) !== value) seen.push(value); }).observe(document.getElementById('level_value'), {childList: true, characterData: true, subtree: true})")
+        " if (seen.at(-1) !== value) seen.push(value); }).observe(document.getElementById('level_value'), {childList: true, characterData: true, "
+        "subtree: true})")
 # A dragon curve of 131,072 segments, one of nearly a million, and one in space.
 DRAGON = "axiom L\nproduction l: L => L+R\nproduction r: R => L-R\nhom hl: L => %s\nhom hr: R => %s\ndepth %d\nsvg\n"
 LARGE = [("131,072 lines", DRAGON % (("F+F-F-F+" * 8,) * 2 + (12,)), 30), ("a million", DRAGON % (("F" * 60,) * 2 + (14,)), 10),
@@ -42,14 +44,16 @@ return new Promise(done => {
 MIDDLE = ("const {points, view, canvas} = lookPage.picture, at = 4 * arguments[0];"
           " return [Math.round(view.x + view.scale * (points[at] + points[at + 2]) / 2 - canvas.clientWidth / 2),"
           " Math.round(view.y + view.scale * (points[at + 1] + points[at + 3]) / 2 - canvas.clientHeight / 2)]")
-MODULE = "return [document.getElementById('module').hidden, document.getElementById('module_told').textContent, document.getElementById('module_way').textContent, lookPage.picture.lit.length]"
+MODULE = ("return [document.getElementById('module').hidden, document.getElementById('module_told').textContent, "
+          "document.getElementById('module_way').textContent, lookPage.picture.lit.length]")
 
 
 def point_at(trial: Trial, segment: int) -> list[Any]:
     """Lets the mouse rest on a segment, and gives what is told of its module."""
     x, y = trial.browser.run(MIDDLE, segment)
     origin = {"element-6066-11e4-a52e-4f735466cecf": trial.browser.element("#picture")}
-    trial.browser.act("pointer", [{"type": "pointerMove", "x": 0, "y": 0, "origin": "viewport", "duration": 0}, {"type": "pointerMove", "x": x, "y": y, "origin": origin, "duration": 30}])
+    trial.browser.act("pointer", [{"type": "pointerMove", "x": 0, "y": 0, "origin": "viewport", "duration": 0},
+                                  {"type": "pointerMove", "x": x, "y": y, "origin": origin, "duration": 30}])
     for _ in range(100):
         told = trial.browser.run(MODULE)
         if not told[0]:
@@ -65,7 +69,8 @@ def growth(trial: Trial) -> None:
     last = trial.expect("the island's last level fits", lambda page: page["lines"] == 2048 and page["fitted"] == "true")
     browser.run("document.getElementById('picture').focus()")
     browser.keys("Home")
-    trial.expect("a key leads to level 0, in the frame of the last level", lambda page: page["lines"] == 4 and page["view"][0] == last["view"][0] and page["fitted"] == "true")
+    trial.expect("a key leads to level 0, in the frame of the last level",
+                 lambda page: page["lines"] == 4 and page["view"][0] == last["view"][0] and page["fitted"] == "true")
     browser.keys(".")
     trial.expect("another one to the next level", lambda page: page["lines"] == 32 and page["view"][:3] == last["view"][:3])
     browser.click("#one_frame")
@@ -129,7 +134,8 @@ def plates(trial: Trial) -> None:
         trial.expect("%s come" % name, lambda page: page["lines"] >= 131072)
         trial.told("and are drawn", trial.seen(is_whole))
         frames = browser.run(MOVED % "picture.move(3 * Math.sin(spent / 200), 3 * Math.cos(spent / 200))")
-        trial.told("moved, %s have %d frames a second, and at least %d on a free machine" % (name, frames, wanted), frames >= wanted or frames * stretch() >= wanted)
+        trial.told("moved, %s have %d frames a second, and at least %d on a free machine" % (name, frames, wanted),
+                   frames >= wanted or frames * stretch() >= wanted)
         frames = browser.run(MOVED % "picture.turnBy(0.01, 0)")
         trial.told("turned, they have %d, and at least 10" % frames, frames >= 10 or frames * stretch() >= 10)
         trial.told("and are whole again", trial.seen(is_whole))
@@ -161,13 +167,16 @@ def sheets(trial: Trial) -> None:
     browser.keys("Alt+v")
     shown = browser.run("return [document.getElementById('sheet').open, document.querySelector('#sheet_form select').selectedOptions[0].textContent]")
     trial.told("the number at the cursor is chosen", shown[0] and "A(\u20393\u203a)" in shown[1], shown)
-    browser.run("const set = (input, value) => { input.value = value; input.dispatchEvent(new Event('change')); }, [first, second] = lookPage.sheet.sides;"
+    browser.run("const set = (input, value) => { input.value = value; input.dispatchEvent(new Event('change')); }, [first, second] = "
+                "lookPage.sheet.sides;"
                 " set(first.inputs[0], 1), set(first.inputs[1], 4), set(first.inputs[2], 1);"
                 " set(second.select, [...second.select.options].find(option => option.textContent === 'the depth').value);"
                 " set(second.inputs[0], 1), set(second.inputs[1], 3), set(second.inputs[2], 1)")
     browser.click("#sheet_form button")
-    trial.expect("twelve pictures are drawn", lambda page: browser.run("return document.getElementById('sheet_told').textContent") == "12 of 12 drawn")
-    told = browser.run("return [...document.querySelectorAll('#cells li')].map(item => [item.querySelector('strong').textContent, Number(item.querySelector('small').dataset.count),"
+    trial.expect("twelve pictures are drawn",
+                 lambda page: browser.run("return document.getElementById('sheet_told').textContent") == "12 of 12 drawn")
+    told = browser.run("return [...document.querySelectorAll('#cells li')].map(item => [item.querySelector('strong').textContent, "
+                       "Number(item.querySelector('small').dataset.count),"
                        " item.querySelector('small').textContent])")
     names = ["line 2: %d, depth %d" % (value, depth) for depth in (1, 2, 3) for value in (1, 2, 3, 4)]
     trial.told("each with its values and its counts", [cell[0] for cell in told] == names and all("asked anew" in cell[2] for cell in told), told)
@@ -179,13 +188,15 @@ def sheets(trial: Trial) -> None:
     trial.told("and equal to a single run", not wrong, wrong)
     trial.shot("sheet")
     browser.click("#cells li:nth-child(6) button")
-    trial.expect("a click takes its values into the script", lambda page: "A(2)" in page["script"] and "depth 2" in page["script"] and not page["pending"])
+    trial.expect("a click takes its values into the script",
+                 lambda page: "A(2)" in page["script"] and "depth 2" in page["script"] and not page["pending"])
     browser.click("#undo")
     trial.expect("and one undo takes them back", lambda page: page["script"] == PLANT)
     browser.run("return lookPage.sheet.open()")
     browser.run("lookPage.sheet.sides[0].inputs[1].value = 100000")
     browser.click("#sheet_form button")
-    trial.expect("too many are refused with a word", lambda page: "at most 100 pictures" in browser.run("return document.getElementById('sheet_told').textContent"))
+    trial.expect("too many are refused with a word",
+                 lambda page: "at most 100 pictures" in browser.run("return document.getElementById('sheet_told').textContent"))
     browser.click("#close_sheet")
     trial.is_quiet()
 
@@ -194,7 +205,8 @@ def sheets_written(trial: Trial) -> None:
     """tools/export writes the same pictures as one file (without a page)."""
     trial.begin(PLANT)
     made = os.path.join(trial.folder, "sheet.svg")
-    ran = subprocess.run([os.path.join(TOP, "tools", "export"), trial.path, made, "--program", trial.program, "--sheet", "2.2=1..3", "--sheet", "depth=1..2"], stderr=subprocess.PIPE, text=True)
+    ran = subprocess.run([os.path.join(TOP, "tools", "export"), trial.path, made, "--program", trial.program, "--sheet", "2.2=1..3", "--sheet",
+                          "depth=1..2"], stderr=subprocess.PIPE, text=True)
     with open(made) as file:
         text = file.read()
     cells = re.findall(r"<svg x=[^>]* (viewBox=\"[^\"]*\")>\n<g [^>]*>\n(.*?)</g>\n</svg>\n", text, re.S)
@@ -203,11 +215,14 @@ def sheets_written(trial: Trial) -> None:
         for value in (1, 2, 3):
             svg = exported(trial, PLANT.replace("A(3)", "A(%d)" % value).replace("depth 3", "depth %d" % depth))
             wanted.append((re.findall("viewBox=\"[^\"]*\"", svg)[0], svg[svg.index("<path"):svg.rindex("</g>")]))
-    trial.told("an SVG has six pictures, each that of a single run", ran.returncode == 0 and cells == wanted, (ran.stderr, len(cells), cells[:1], wanted[:1]))
-    ran = subprocess.run([os.path.join(TOP, "tools", "export"), trial.path, os.path.join(trial.folder, "sheet.png"), "--program", trial.program, "--sheet", "seed=1..2"], stderr=subprocess.PIPE, text=True)
+    trial.told("an SVG has six pictures, each that of a single run", ran.returncode == 0 and cells == wanted,
+               (ran.stderr, len(cells), cells[:1], wanted[:1]))
+    ran = subprocess.run([os.path.join(TOP, "tools", "export"), trial.path, os.path.join(trial.folder, "sheet.png"), "--program", trial.program,
+                          "--sheet", "seed=1..2"], stderr=subprocess.PIPE, text=True)
     is_made = os.path.exists(os.path.join(trial.folder, "sheet.png"))
     trial.told("a PNG is written, or it is said by what it would be", is_made if ran.returncode == 0 else "rsvg-convert" in ran.stderr, ran.stderr)
-    ran = subprocess.run([os.path.join(TOP, "tools", "export"), trial.path, made, "--program", trial.program, "--sheet", "9.9=1..2"], stderr=subprocess.PIPE, text=True)
+    ran = subprocess.run([os.path.join(TOP, "tools", "export"), trial.path, made, "--program", trial.program, "--sheet", "9.9=1..2"],
+                         stderr=subprocess.PIPE, text=True)
     trial.told("a number that there isn't is told", ran.returncode == 2 and "line 9 has no number 9" in ran.stderr, ran.stderr)
 
 
@@ -217,20 +232,26 @@ def beside(trial: Trial) -> None:
     trial.begin(ISLAND.replace("depth 3", "depth 1"))
     trial.expect("the island is drawn", lambda page: page["lines"] == 32)
     browser.keys("Alt+a")
-    trial.expect("A is held", lambda page: browser.run("return !document.getElementById('held').hidden && document.getElementById('held').dataset.lines") == "32")
+    trial.expect("A is held", lambda page: browser.run("return !document.getElementById('held').hidden && "
+                                                       "document.getElementById('held').dataset.lines") == "32")
     before = set(ends(trial.program, ISLAND.replace("depth 3", "depth 1")))
     browser.run("lookPage.put(lookPage.lines().map(line => line.replace('F-F-F-F', 'F-F-F')), '')")
     trial.expect("B is drawn", lambda page: page["lines"] == 24)
     after = set(ends(trial.program, ISLAND.replace("depth 3", "depth 1").replace("F-F-F-F", "F-F-F")))
     wanted = ["%d" % len(before - after), "%d" % len(after - before)]
-    trial.expect("what went and what came is counted", lambda page: browser.run("const {went, came} = document.getElementById('beside_told').dataset; return [went, came]") == wanted)
+    trial.expect("what went and what came is counted",
+                 lambda page: browser.run("const {went, came} = document.getElementById('beside_told').dataset; return [went, came]") == wanted)
     browser.click("#differences summary")
-    trial.expect("the lines that differ are told", lambda page: "-    1  axiom F-F-F-F\n+    1  axiom F-F-F\n" in browser.run("return document.getElementById('differences_text').textContent"))
-    views = browser.run("return [lookPage.picture.view.scale, lookPage.beside.picture.view.scale, lookPage.picture.marked.length, lookPage.beside.picture.marked.length]")
+    trial.expect("the lines that differ are told",
+                 lambda page: "-    1  axiom F-F-F-F\n+    1  axiom F-F-F\n" in browser.run(
+                     "return document.getElementById('differences_text').textContent"))
+    views = browser.run("return [lookPage.picture.view.scale, lookPage.beside.picture.view.scale, lookPage.picture.marked.length, "
+                        "lookPage.beside.picture.marked.length]")
     trial.told("both are seen in one frame", views[0] == views[1] and views[2:] == [1, 1], views)
     trial.shot("beside")
     browser.run("lookPage.put(['lattice hexagonal', ...lookPage.lines()], '')")
-    trial.expect("on another lattice lines are not compared, which is said", lambda page: "not compared" in browser.run("return document.getElementById('beside_told').textContent"))
+    trial.expect("on another lattice lines are not compared, which is said",
+                 lambda page: "not compared" in browser.run("return document.getElementById('beside_told').textContent"))
     browser.click("#back_to_a")
     trial.expect("back to A", lambda page: page["script"] == ISLAND.replace("depth 3", "depth 1") and page["lines"] == 32)
     browser.click("#let_go")
@@ -254,8 +275,10 @@ def films(trial: Trial) -> None:
         browser.click("#film summary")
         browser.click("#film_" + kind)
         found[kind] = browser.downloaded(name)
-    trial.told("an SVG has a group for each level, one after another", found["svg"].count(b"<animate ") == 3 and found["svg"].count(b"id=\"level_") == 3, found["svg"][:200])
-    trial.told("a WebM is recorded", found["webm"].startswith(b"\x1aE\xdf\xa3") and b"webm" in found["webm"][:64] and len(found["webm"]) > 2000, found["webm"][:64])
+    trial.told("an SVG has a group for each level, one after another",
+               found["svg"].count(b"<animate ") == 3 and found["svg"].count(b"id=\"level_") == 3, found["svg"][:200])
+    trial.told("a WebM is recorded", found["webm"].startswith(b"\x1aE\xdf\xa3") and b"webm" in found["webm"][:64] and len(found["webm"]) > 2000,
+               found["webm"][:64])
     browser.click("#film summary")
     browser.click("#film_gif")
     if makes_gifs():
@@ -283,9 +306,11 @@ def single(trial: Trial, page: bytes) -> None:
     browser.tell("Network.emulateNetworkConditions", {"offline": True, "latency": 0, "downloadThroughput": 0, "uploadThroughput": 0})
     try:
         browser.open("file://" + path)
-        told = "return [document.getElementById('told').textContent, document.getElementById('script').textContent, document.getElementById('picture').width > 100, performance.getEntriesByType('resource').length]"
+        told = ("return [document.getElementById('told').textContent, document.getElementById('script').textContent, "
+                "document.getElementById('picture').width > 100, performance.getEntriesByType('resource').length]")
         shown = browser.run(told)
-        trial.told("with the network off it shows the last level, the script and its replies", shown[0] == "256 lines, level 2 of 2" and "depth 2  ok 36/36\n" in shown[1] and shown[2], shown)
+        trial.told("with the network off it shows the last level, the script and its replies",
+                   shown[0] == "256 lines, level 2 of 2" and "depth 2  ok 36/36\n" in shown[1] and shown[2], shown)
         trial.told("and has asked for nothing", shown[3] == 0, shown)
         browser.click("#less")
         trial.told("a level back", browser.run(told)[0] == "32 lines, level 1 of 2", browser.run(told))
@@ -308,7 +333,8 @@ def single(trial: Trial, page: bytes) -> None:
         looking = Looking([os.path.join(TOP, "tools", "look"), named, "--program", trial.program, "--no-browser"], trial.folder)
         state = json.loads(looking.get("/state?turn=0"))
         looking.end()
-        trial.told("tools/look takes the script of %s" % ("the file" if named == path else "a link"), state["script"] == script and state["path"] is None, state)
+        trial.told("tools/look takes the script of %s" % ("the file" if named == path else "a link"),
+                   state["script"] == script and state["path"] is None, state)
 
 
 def taking_back(trial: Trial) -> None:
@@ -316,8 +342,10 @@ def taking_back(trial: Trial) -> None:
     trial.begin(ISLAND)
     with open(os.path.join(trial.folder, "none.html"), "w") as file:
         file.write("<script type=\"application/json\" id=\"lsys\">{</script>")
-    for named, word in [("none.html", "holds no script"), ("http://127.0.0.1/#script=@", "holds no script"), ("http://127.0.0.1/#script=AAAA", "holds no script")]:
-        ran = subprocess.run([os.path.join(TOP, "tools", "look"), named, "--no-browser", "--program", trial.program], cwd=trial.folder, stderr=subprocess.PIPE, text=True, timeout=60)
+    for named, word in [("none.html", "holds no script"), ("http://127.0.0.1/#script=@", "holds no script"),
+                        ("http://127.0.0.1/#script=AAAA", "holds no script")]:
+        ran = subprocess.run([os.path.join(TOP, "tools", "look"), named, "--no-browser", "--program", trial.program], cwd=trial.folder,
+                             stderr=subprocess.PIPE, text=True, timeout=60)
         trial.told("%s is refused" % named, ran.returncode == 2 and word in ran.stderr, ran.stderr)
 
 

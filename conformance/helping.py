@@ -16,12 +16,17 @@ LONG = "axiom A(1)\nproduction a: A(x) < A(y) : x+y*x-y > x*y*x => A(x)A(y)\npro
 ISLAND = "axiom F-F-F-F\nproduction f: F => F-F+F+FF-F-F+F\ndepth 2\nsvg\n"
 TOLD = """
 const at = id => document.getElementById(id);
-return {to_refused: at('stale').hidden ? '' : at('to_refused').textContent, drawn: at('stale').hidden ? '' : at('stale').querySelector('span').textContent,
+return {to_refused: at('stale').hidden ? '' : at('to_refused').textContent, drawn: at('stale').hidden ? ''
+  : at('stale').querySelector('span').textContent,
   busy: at('busy').hidden ? '' : at('busy').textContent, meaning: at('counts_meaning').hidden ? '' : at('counts_meaning').textContent,
-  counts: at('counts').textContent, beside: Array.from(document.querySelectorAll('.reply'), each => each.textContent), meant: Array.from(document.querySelectorAll('.meant'), each => each.textContent),
-  notice: at('notice').hidden ? '' : at('notice').querySelector('span').textContent, question: at('question').hidden ? '' : at('question').textContent,
-  caret: lookPage.field.caret(), script: lookPage.lines().join('\\n'), lines: Number(at('picture').dataset.lines || -1), levels: at('level_value').textContent, depth: at('depth_value').textContent,
-  running: (lookPage.state || {}).running, replies: (lookPage.state || {replies: []}).replies.length, stopped: (lookPage.state || {}).stopped, pending: lookPage.desk.isPending()};
+  counts: at('counts').textContent, beside: Array.from(document.querySelectorAll('.reply'), each => each.textContent),
+    meant: Array.from(document.querySelectorAll('.meant'), each => each.textContent),
+  notice: at('notice').hidden ? '' : at('notice').querySelector('span').textContent, question: at('question').hidden ? ''
+    : at('question').textContent,
+  caret: lookPage.field.caret(), script: lookPage.lines().join('\\n'), lines: Number(at('picture').dataset.lines || -1),
+    levels: at('level_value').textContent, depth: at('depth_value').textContent,
+  running: (lookPage.state || {}).running, replies: (lookPage.state || {replies: []}).replies.length, stopped: (lookPage.state || {}).stopped,
+    pending: lookPage.desk.isPending()};
 """
 
 
@@ -46,15 +51,18 @@ def refusals(trial: Trial) -> None:
     trial.caret_to(2, 0)
     browser.keys("Delete")
     expect(trial, "while a line is being typed, depth, level and picture stay",
-           lambda told: told["to_refused"].startswith("line 3 is refused: did you mean `depth`?") and told["levels"] == "2 of 2" and told["depth"] == "2" and told["lines"] == 256)
+           lambda told: told["to_refused"].startswith("line 3 is refused: did you mean `depth`?") and told["levels"] == "2 of 2"
+           and told["depth"] == "2" and told["lines"] == 256)
     expect(trial, "the line that was meant is offered", lambda told: told["meant"] == ["Take: depth 2"])
-    expect(trial, "it is told of which script the picture is", lambda told: told["drawn"] == "The picture is of the script before line 3 was changed.")
+    expect(trial, "it is told of which script the picture is",
+           lambda told: told["drawn"] == "The picture is of the script before line 3 was changed.")
     trial.shot("hint")
     browser.click(".meant")
     expect(trial, "and taken by a click", lambda told: told["script"] == ISLAND and not told["meant"] and told["to_refused"] == "")
     trial.caret_to(4, 0)
     browser.type("F=F+F")
-    expect(trial, "a rule in another notation is offered as a production", lambda told: told["meant"] == ["Take: production f2: F => F+F"] or told["meant"] == ["Take: production f: F => F+F"])
+    expect(trial, "a rule in another notation is offered as a production",
+           lambda told: told["meant"] == ["Take: production f2: F => F+F"] or told["meant"] == ["Take: production f: F => F+F"])
     expect(trial, "and the picture is of the lines before it", lambda told: told["drawn"] == "The picture is of lines 1 to 4.")
     browser.keys("Alt+Enter")
     expect(trial, "one key takes it", lambda told: "production f" in told["script"].split("\n")[4] and not told["meant"])
@@ -66,7 +74,8 @@ def refusals(trial: Trial) -> None:
     expect(trial, "a click goes there", lambda told: told["caret"]["line"] == 200)
     browser.run("lookPage.put(['axiom G+G', 'svg'], '')")
     told = trial.seen("return document.getElementById('told').textContent", lambda told: "only names" in told)
-    trial.told("of a letter that draws in other tools it is told", told == "0 lines, level 0: only names that begin with F draw; G is a letter like others here", told)
+    trial.told("of a letter that draws in other tools it is told",
+               told == "0 lines, level 0: only names that begin with F draw; G is a letter like others here", told)
     trial.is_quiet()
 
 
@@ -76,7 +85,8 @@ window.noted = {};
 window.note = what => { noted[what] = noted[what] || performance.now() / 1000; };
 const at = id => document.getElementById(id);
 new MutationObserver(() => { if (!at('busy').hidden) note('busy'); }).observe(at('busy'), {attributes: true});
-new MutationObserver(() => { if (at('notice').textContent.includes('was stopped')) note('stopped'); }).observe(at('notice'), {attributes: true, childList: true, characterData: true, subtree: true});
+new MutationObserver(() => { if (at('notice').textContent.includes('was stopped')) note('stopped'); })
+  .observe(at('notice'), {attributes: true, childList: true, characterData: true, subtree: true});
 at('cancel').addEventListener('click', () => note('cancel'), true);
 """
 
@@ -91,7 +101,8 @@ def long_work(trial: Trial) -> None:
     expect(trial, "what takes long is told, with what it is", lambda told: "Working at `depth 18`" in told["busy"] and "Cancel" in told["busy"])
     trial.shot("busy")
     browser.click("#cancel")
-    expect(trial, "Cancel leaves the page at the last answered line", lambda told: told["stopped"] == [3, "depth 18"] and told["replies"] == 3 and told["busy"] == "")
+    expect(trial, "Cancel leaves the page at the last answered line",
+           lambda told: told["stopped"] == [3, "depth 18"] and told["replies"] == 3 and told["busy"] == "")
     noted = browser.run("return noted")
     seconds = noted["busy"] - noted["wanted"]
     trial.told("it is told after half a second", seconds > 0.45 and is_within(seconds, 1), noted)
@@ -102,9 +113,11 @@ def long_work(trial: Trial) -> None:
     browser.run("lookPage.put(lookPage.lines().map(line => line === 'depth 18' ? 'depth 6' : line), '')")
     expect(trial, "and goes on", lambda told: told["replies"] == 4 and told["stopped"] is None and not told["pending"])
     browser.run("lookPage.put(['axiom ' + 'A'.repeat(61), 'production a: A => AA', 'depth 13'], '')")
-    expect(trial, "a depth of a million symbols, 999,363, is answered", lambda told: told["replies"] == 3 and told["beside"][-1].endswith(" of 499,651") and not told["notice"])
+    expect(trial, "a depth of a million symbols, 999,363, is answered",
+           lambda told: told["replies"] == 3 and told["beside"][-1].endswith(" of 499,651") and not told["notice"])
     browser.run("lookPage.put(['axiom A', 'production a: A => AA', 'depth 19'], '')")
-    expect(trial, "one of more is past the limit, and told so", lambda told: "levels 0 to 19 have together more than 1,000,000 symbols" in told["to_refused"] and "the greatest one" in told["to_refused"])
+    expect(trial, "one of more is past the limit, and told so",
+           lambda told: "levels 0 to 19 have together more than 1,000,000 symbols" in told["to_refused"] and "the greatest one" in told["to_refused"])
     trial.is_quiet()
 
 
@@ -113,8 +126,10 @@ MOMENT = 0.2
 # All controls of the page that can be used but those of the notice, the question, the help and the text, and undo and redo: their names, in the
 # order in which each has a number from now on.
 CONTROLS = """
-const all = Array.from(document.querySelectorAll('header, main, footer'), part => Array.from(part.querySelectorAll('button, summary, select, input'))).flat();
-const used = all.filter(each => !each.disabled && !each.closest('#notice, #question, #help, #editor, dialog') && !['undo', 'redo', 'line', 'file'].includes(each.id)
+const all = Array.from(document.querySelectorAll('header, main, footer'), part => Array.from(part.querySelectorAll('button, summary, select, input')))
+  .flat();
+const used = all.filter(each => !each.disabled && !each.closest('#notice, #question, #help, #editor, dialog')
+  && !['undo', 'redo', 'line', 'file'].includes(each.id)
   && (each.offsetParent || each.closest('.menu') && each.closest('.menu').offsetParent));
 return used.map((each, number) => { each.dataset.tried = number; return each.id || each.parentElement.id + ' ' + each.textContent.trim(); });
 """
@@ -157,11 +172,13 @@ def offline(trial: Trial) -> None:
     try:
         is_off(True)
         browser.run("lookPage.put(lookPage.lines().map(line => line === 'depth 2' ? 'depth 1' : line), '')")
-        expect(trial, "the page says that tools/look can't be reached, and offers the text", lambda told: "can't be reached" in told["notice"] and "Save the text as a file" in told["question"])
+        expect(trial, "the page says that tools/look can't be reached, and offers the text",
+               lambda told: "can't be reached" in told["notice"] and "Save the text as a file" in told["question"])
         expect(trial, "what was typed is in it", lambda told: "depth 1" in told["script"] and told["lines"] == 256)
     finally:
         is_off(False)
-    expect(trial, "with the network what was typed is answered, and nothing is told any more", lambda told: told["lines"] == 32 and told["notice"] == "" and told["question"].strip() == "" and not told["pending"])
+    expect(trial, "with the network what was typed is answered, and nothing is told any more",
+           lambda told: told["lines"] == 32 and told["notice"] == "" and told["question"].strip() == "" and not told["pending"])
     complaints = [line for line in browser.errors() if "Failed to load resource" not in line and "ERR_INTERNET_DISCONNECTED" not in line]
     trial.told("no error is left uncaught", not complaints, complaints)
 
@@ -173,7 +190,8 @@ def gone(trial: Trial) -> None:
     expect(trial, "drawn", lambda told: told["lines"] == 256)
     trial.look.send_signal(signal.SIGKILL)
     trial.look.wait(PATIENCE)
-    expect(trial, "the page says that it is gone, and offers the text", lambda told: "can't be reached" in told["notice"] and "Save the text as a file" in told["question"])
+    expect(trial, "the page says that it is gone, and offers the text",
+           lambda told: "can't be reached" in told["notice"] and "Save the text as a file" in told["question"])
     browser.click("#question button")
     trial.told("as a file", browser.downloaded("island.lsys") == ISLAND.encode())
     # A person's click: of what a script asks for the browser lets one have the first file alone.
@@ -189,7 +207,8 @@ def gone(trial: Trial) -> None:
     browser.run("lookPage.notice(''); document.getElementById('line').value = 'show'; document.getElementById('ask').requestSubmit()")
     expect(trial, "a query tells the same", lambda told: "can't be reached" in told["notice"])
     expect(trial, "and the text is there", lambda told: told["script"].startswith("axiom F-F-F-F"))
-    complaints = [line for line in browser.errors() if "Failed to load resource" not in line and "ERR_CONNECTION_REFUSED" not in line and "beforeunload" not in line]
+    complaints = [line for line in browser.errors() if "Failed to load resource" not in line and "ERR_CONNECTION_REFUSED" not in line
+                  and "beforeunload" not in line]
     trial.told("no error is left uncaught", not complaints, complaints)
 
 
@@ -208,7 +227,8 @@ return wrong;
 # The commands and the turtle's signs of which nothing is told.
 UNTOLD = """
 const commands = Array.from(document.querySelectorAll('#help_commands a'), each => each.textContent), signs = [...'Ff+-&^\\\\/|![]%'];
-return [...commands.filter(word => !lookPage.help.tipAt(word, 1).startsWith(word)), ...signs.filter(sign => !lookPage.help.tipAt('axiom ' + sign, 6).startsWith(sign + ': '))];
+return [...commands.filter(word => !lookPage.help.tipAt(word, 1).startsWith(word)),
+  ...signs.filter(sign => !lookPage.help.tipAt('axiom ' + sign, 6).startsWith(sign + ': '))];
 """
 
 
@@ -218,15 +238,19 @@ def side_panel(trial: Trial) -> None:
     trial.begin(ISLAND)
     expect(trial, "drawn", lambda told: told["lines"] == 256)
     browser.click("#help_button")
-    found = trial.seen("return [document.getElementById('help').hidden, document.querySelectorAll('#help_commands a').length, document.querySelectorAll('#help_text section').length,"
+    found = trial.seen("return [document.getElementById('help').hidden, document.querySelectorAll('#help_commands a').length, "
+                       "document.querySelectorAll('#help_text section').length,"
                        " document.querySelectorAll('#help .help-lsys button').length, document.activeElement.id]", lambda found: found[1] > 20)
-    trial.told("the panel has all commands, sections and examples", found[0] is False and found[1] >= 23 and found[2] > 40 and found[3] > 30 and found[4] == "help_search", found)
+    trial.told("the panel has all commands, sections and examples",
+               found[0] is False and found[1] >= 23 and found[2] > 40 and found[3] > 30 and found[4] == "help_search", found)
     trial.shot("help")
     browser.type("schedule")
-    found = browser.run("return [Array.from(document.querySelectorAll('#help_text section')).filter(each => !each.hidden).length, document.getElementById('help_found').textContent]")
+    found = browser.run("return [Array.from(document.querySelectorAll('#help_text section')).filter(each => !each.hidden).length, "
+                        "document.getElementById('help_found').textContent]")
     trial.told("a search leaves the sections that have it", 0 < found[0] < 20 and found[1] == "%d sections" % found[0], found)
     browser.run("document.querySelectorAll('#help_commands a')[1].click()")
-    found = browser.run("const box = document.getElementById('language_production').getBoundingClientRect(); return [Math.round(box.top), document.activeElement.textContent]")
+    found = browser.run("const box = document.getElementById('language_production').getBoundingClientRect(); return [Math.round(box.top), "
+                        "document.activeElement.textContent]")
     trial.told("a command leads to its section", abs(found[0]) < 60 and found[1] == "production", found)
     browser.run("document.querySelector('#language_production .help-lsys button').click()")
     expect(trial, "an example opens as a new script", lambda told: "production grow" in told["script"] and told["replies"] > 3)
@@ -234,7 +258,8 @@ def side_panel(trial: Trial) -> None:
     trial.told("so does each of them, by its own text", wrong == [], wrong)
     browser.run("document.getElementById('close_help').click()")
     trial.told("Close closes it", browser.run("return document.getElementById('help').hidden"))
-    place = browser.run("const box = document.querySelector('.cm-keyword').getBoundingClientRect(); return [Math.round(box.left + 12), Math.round(box.top + 8)]")
+    place = browser.run("const box = document.querySelector('.cm-keyword').getBoundingClientRect(); return [Math.round(box.left + 12), "
+                        "Math.round(box.top + 8)]")
     browser.act("pointer", [{"type": "pointerMove", "x": place[0], "y": place[1], "origin": "viewport", "duration": 30}])
     told = trial.seen("return document.getElementById('tip').hidden ? '' : document.getElementById('tip').textContent", bool)
     trial.told("a command under the mouse is told", told.startswith("axiom STRING: sets the axiom"), told)
@@ -261,7 +286,8 @@ def completing(trial: Trial) -> None:
         trial.caret_to(4, 0)
         browser.keys("Control+ ")
         found = trial.seen(shown, bool)
-        trial.told("commands and pieces of scripts are offered", "axiom command" in found and all(name + " piece of a script" in found for name in PIECES) and len(found) > 25, found)
+        trial.told("commands and pieces of scripts are offered",
+                   "axiom command" in found and all(name + " piece of a script" in found for name in PIECES) and len(found) > 25, found)
         browser.type("dr")
         found = trial.seen(shown, lambda found: len(found) < 2)
         trial.told("what is typed narrows them", found == ["drop command"], found)
@@ -286,7 +312,9 @@ def completing(trial: Trial) -> None:
         browser.keys("Control+ ")
         trial.seen(shown, bool)
         browser.keys("Enter")
-        expect(trial, "a piece of a script is put", lambda told: told["script"].split("\n")[4:] == ["production left: F @ 1 => F[+F]F", "production right: F @ 1 => F[-F]F", "seed 1"] and told["replies"] == 7)
+        expect(trial, "a piece of a script is put", lambda told: told["script"].split("\n")[4:] == ["production left: F @ 1 => F[+F]F",
+                                                                                                    "production right: F @ 1 => F[-F]F", "seed 1"]
+               and told["replies"] == 7)
         trial.is_quiet()
 
 
@@ -311,7 +339,8 @@ def beginnings(trial: Trial) -> None:
     answer = "return document.getElementById('answer').textContent"
     browser.run(ask % "depth 3")
     told = trial.seen(answer, bool)
-    trial.told("what is no query is told so, and changes nothing", "is no query, and nothing was changed" in told and "depth" not in browser.run(TOLD)["script"], told)
+    trial.told("what is no query is told so, and changes nothing",
+               "is no query, and nothing was changed" in told and "depth" not in browser.run(TOLD)["script"], told)
     browser.run(ask % "bounds")
     told = trial.seen(answer, lambda text: text.startswith("bounds"))
     trial.told("a query is answered", told.startswith("bounds 0 0 0 "), told)
@@ -328,16 +357,20 @@ def beginnings(trial: Trial) -> None:
 ACCESS = """
 const found = [];
 const seen = element => element.getClientRects().length > 0 && getComputedStyle(element).visibility !== 'hidden';
-const nameOf = element => (element.getAttribute('aria-label') || element.textContent || element.title || (element.labels && element.labels[0] && element.labels[0].textContent) || '').trim();
-for (const element of document.querySelectorAll('button, summary, input, select, textarea, canvas, a, [role=listbox], dialog, aside, section[aria-label]')) {
+const nameOf = element => (element.getAttribute('aria-label') || element.textContent || element.title
+  || (element.labels && element.labels[0] && element.labels[0].textContent) || '').trim();
+for (const element of document.querySelectorAll(
+  'button, summary, input, select, textarea, canvas, a, [role=listbox], dialog, aside, section[aria-label]')) {
   if (seen(element) && element.type !== 'file' && !nameOf(element)) found.push('no name: ' + element.outerHTML.slice(0, 90));
-  if (seen(element) && element.matches('button, input, select, textarea') && element.tabIndex < 0 && !element.disabled) found.push('no focus: ' + element.outerHTML.slice(0, 90));
+  if (seen(element) && element.matches('button, input, select, textarea') && element.tabIndex < 0
+    && !element.disabled) found.push('no focus: ' + element.outerHTML.slice(0, 90));
 }
 const channel = value => { const part = value / 255; return part <= 0.03928 ? part / 12.92 : ((part + 0.055) / 1.055) ** 2.4; };
 const light = ([r, g, b]) => 0.2126 * channel(r) + 0.7152 * channel(g) + 0.0722 * channel(b);
 const pen = Object.assign(document.createElement('canvas'), {width: 1, height: 1}).getContext('2d', {willReadFrequently: true});
 const once = (of, known = new Map()) => key => { if (!known.has(key)) known.set(key, of(key)); return known.get(key); };
-const colourOf = once(text => { pen.clearRect(0, 0, 1, 1); pen.fillStyle = text; pen.fillRect(0, 0, 1, 1); return [...pen.getImageData(0, 0, 1, 1).data]; });
+const colourOf = once(text => { pen.clearRect(0, 0, 1, 1); pen.fillStyle = text; pen.fillRect(0, 0, 1, 1);
+  return [...pen.getImageData(0, 0, 1, 1).data]; });
 const groundOf = once(element => { const below = element ? groundOf(element.parentElement) : colourOf('Canvas');
   const [r, g, b, a] = element ? colourOf(getComputedStyle(element).backgroundColor) : below;
   return [r, g, b].map((value, place) => (value * a + below[place] * (255 - a)) / 255); });
@@ -345,13 +378,16 @@ const told = new Set();
 const compare = (element, colour, text) => {
   const ink = light(colourOf(colour)), ground = light(groundOf(element)), ratio = (Math.max(ink, ground) + 0.05) / (Math.min(ink, ground) + 0.05);
   const key = element.className + colour + ratio.toFixed(1);
-  if (ratio < 4.5 && !told.has(key)) { told.add(key); found.push('contrast ' + ratio.toFixed(2) + ': ' + element.className + ' ' + text.slice(0, 40)); }
+  if (ratio < 4.5 && !told.has(key)) { told.add(key); found.push('contrast ' + ratio.toFixed(2) + ': ' + element.className + ' '
+    + text.slice(0, 40)); }
 };
-for (const element of document.querySelectorAll('[placeholder]')) if (seen(element)) compare(element, getComputedStyle(element, '::placeholder').color, element.placeholder);
+for (const element of document.querySelectorAll('[placeholder]')) if (seen(element)) compare(element,
+  getComputedStyle(element, '::placeholder').color, element.placeholder);
 const walker = document.createTreeWalker(document.body, NodeFilter.SHOW_TEXT);
 for (let node; (node = walker.nextNode());) {
   const element = node.parentElement;
-  if (!node.textContent.trim() || !seen(element) || element.closest(':disabled, .CodeMirror-measure, .unseen, option') || element.closest('[hidden]')) continue;
+  if (!node.textContent.trim() || !seen(element) || element.closest(':disabled, .CodeMirror-measure, .unseen, option')
+    || element.closest('[hidden]')) continue;
   compare(element, getComputedStyle(element).color, node.textContent);
 }
 const ids = Array.from(document.querySelectorAll('[id]'), each => each.id);

@@ -36,7 +36,8 @@ def undoing(trial: Trial) -> None:
     browser.click("#open_gallery")
     trial.expect("the gallery", lambda page: page["gallery"])
     browser.click("[data-name=dragon]")
-    trial.expect("another script, with a word on the one before", lambda page: page["name"] == "dragon" and "Undo" in page["notice"] and page["lines"] > 500)
+    trial.expect("another script, with a word on the one before",
+                 lambda page: page["name"] == "dragon" and "Undo" in page["notice"] and page["lines"] > 500)
     browser.click("#undo")
     trial.expect("the one before comes back", lambda page: "F-F-F+F\n" in page["script"] and page["lines"] == 2048)
     trial.expect("and belongs to its file again", lambda page: page["name"] == "island.lsys" and page["kept"] == "not saved")
@@ -94,7 +95,8 @@ def other_programs(trial: Trial) -> None:
     trial.expect("the island is drawn", lambda page: page["lines"] == 256)
     changed = ISLAND.replace("depth 2", "depth 1")
     trial.save(changed)
-    trial.expect("its text is taken over with a word", lambda page: page["lines"] == 32 and "taken over" in page["notice"] and page["kept"] == "saved")
+    trial.expect("its text is taken over with a word",
+                 lambda page: page["lines"] == 32 and "taken over" in page["notice"] and page["kept"] == "saved")
     browser.click("#more_depth")
     trial.expect("this one is not saved", lambda page: page["kept"] == "not saved" and page["lines"] == 256)
     trial.save(ISLAND.replace("depth 2", "depth 0"))
@@ -109,7 +111,8 @@ def other_programs(trial: Trial) -> None:
     trial.expect("saved", lambda page: page["kept"] == "saved" and open(trial.path).read() == ISLAND)
     after = os.stat(trial.path)
     names = os.listdir(trial.folder)
-    trial.told("by a new file with the same rights", after.st_ino != before.st_ino and after.st_mode == before.st_mode and names == ["island.lsys"], names)
+    trial.told("by a new file with the same rights", after.st_ino != before.st_ino and after.st_mode == before.st_mode and names == ["island.lsys"],
+               names)
     browser.click("#more_depth")
     trial.expect("more depth", lambda page: page["lines"] == 2048)
     trial.save(changed)
@@ -154,7 +157,8 @@ def foreign(trial: Trial) -> None:
         trial.told("%s gets %d" % (what, wanted), status == wanted, status)
     trial.browser.open("data:text/html,<title>elsewhere</title>")
     trial.browser.run("fetch(arguments[0] + '/change', {method: 'POST', mode: 'no-cors', body: arguments[1]}).catch(() => {})"
-                      " .finally(() => { window.isAnswered = true; }); document.body.innerHTML = '<img src=\"' + arguments[0] + '/export/svg\">'", here, body.decode())
+                      " .finally(() => { window.isAnswered = true; }); document.body.innerHTML = '<img src=\"' + arguments[0] + '/export/svg\">'",
+                      here, body.decode())
     trial.seen("return window.isAnswered && document.images[0].complete")
     trial.told("a foreign page gets no picture", trial.browser.run("return document.images[0].naturalWidth") == 0)
     trial.browser.open(trial.address)

@@ -14,7 +14,8 @@ def first_minute(trial: Trial) -> None:
     browser = trial.browser
     trial.begin(None, "new.lsys")
     path = os.path.join(trial.folder, "new.lsys")
-    page = trial.expect("a script that isn't there yet is begun", lambda page: page["name"] == "new.lsys" and page["script"] == "" and not page["gallery"])
+    page = trial.expect("a script that isn't there yet is begun",
+                        lambda page: page["name"] == "new.lsys" and page["script"] == "" and not page["gallery"])
     trial.told("its file isn't there", not os.path.exists(path), page)
     trial.told("the address holds no key any more", "key=" not in browser.run("return location.href"), browser.run("return location.href"))
     trial.told("scripts of the page can't read its cookie", browser.run("return document.cookie") == "", browser.run("return document.cookie"))
@@ -23,12 +24,14 @@ def first_minute(trial: Trial) -> None:
     browser.run("const field = document.getElementById('limit'); field.focus(); field.value = '1000000'; field.dispatchEvent(new Event('change'))")
     trial.expect("its field raises it", lambda page: not page["refused"] and "ok 65535/65535" in page["replies"])
     browser.run("const field = document.getElementById('limit'); field.value = '2000000'; field.dispatchEvent(new Event('change'))")
-    trial.expect("to its greatest value", lambda page: "from 1 to 1,000,000" in page["notice"] and browser.run("return document.getElementById('limit').value") == "1000000")
+    trial.expect("to its greatest value", lambda page: "from 1 to 1,000,000" in page["notice"]
+                 and browser.run("return document.getElementById('limit').value") == "1000000")
     browser.keys("Control+s")
     trial.expect("saved", lambda page: page["kept"] == "saved" and os.path.exists(path))
     trial.told("the page names its licences", "Apache-2.0 or MIT" in browser.run("return document.querySelector('footer').textContent"))
     trial.begin("\ufeffaxiom F+F\nsvg\n")
-    trial.expect("a mark at the head is left out, and said", lambda page: page["lines"] == 2 and page["script"].startswith("axiom") and "byte order mark" in page["notice"])
+    trial.expect("a mark at the head is left out, and said",
+                 lambda page: page["lines"] == 2 and page["script"].startswith("axiom") and "byte order mark" in page["notice"])
     trial.is_quiet()
 
 

@@ -82,7 +82,8 @@ def rows() -> list[Row]:
     rsvg, poppler = readers.lacks("rsvg-convert", "librsvg2-bin"), readers.lacks("pdftocairo", "poppler-utils")
     ezdxf, assimp = readers.lacks_module("ezdxf", "python3-ezdxf"), readers.lacks("assimp", "assimp-utils")
     told = readers.TOLD_TO
-    return [Row("svg", "plainly", readers.plain_svg, "", 1e-12, 1e-6), Row("svg", "by rsvg-convert", readers.svg_by_rsvg, rsvg, told / readers.LONG_SIDE + TOLD_OF_SCALE, 2e-6),
+    return [Row("svg", "plainly", readers.plain_svg, "", 1e-12, 1e-6),
+            Row("svg", "by rsvg-convert", readers.svg_by_rsvg, rsvg, told / readers.LONG_SIDE + TOLD_OF_SCALE, 2e-6),
             Row("svg", "by Inkscape's modules", readers.svg_by_inkscape, no_inkex, 1e-12, 1e-6),
             Row("pdf", "by poppler", readers.pdf_by_poppler, rsvg or poppler, 3 * told / POINTS_OF_A_PDF, 2e-6),
             Row("dxf", "plainly", readers.plain_dxf, "", 1e-12, 1e-6), Row("dxf", "by ezdxf", readers.dxf_by_ezdxf, ezdxf, 1e-12, 1e-6),
@@ -150,7 +151,8 @@ def by_width(runs: Iterable[Run]) -> dict[float, list[tuple[Point, Point]]]:
 def are_segments(found: Iterable[Run], expected: Iterable[Run], near: float) -> bool:
     ends, wanted = by_width(found), by_width(expected)
     return ends.keys() == wanted.keys() and all(
-        len(ends[width]) == len(wanted[width]) and all(is_near(a, c, near) and is_near(b, d, near) for (a, b), (c, d) in zip(ends[width], wanted[width]))
+        len(ends[width]) == len(wanted[width]) and all(is_near(a, c, near) and is_near(b, d, near) for (a, b),
+                                                       (c, d) in zip(ends[width], wanted[width]))
         for width in wanted)
 
 
@@ -204,7 +206,8 @@ def random_string(choice: random.Random, length: int) -> str:
 
 
 def random_script(choice: random.Random) -> bytes:
-    lines = ["; <random> & \"drawn\"", "lattice " + choice.choice(["square", "hexagonal", "cubic"]), "axiom F" + random_string(choice, choice.randrange(1, 9))]
+    lines = ["; <random> & \"drawn\"", "lattice " + choice.choice(["square", "hexagonal", "cubic"]),
+             "axiom F" + random_string(choice, choice.randrange(1, 9))]
     lines += ["production f: F => " + random_string(choice, choice.randrange(2, 7)), "production g: F_a => F" + random_string(choice, 2)]
     lines += ["hom h: F => " + random_string(choice, 3)] * (choice.random() < 0.3)
     return "\n".join([*lines, "depth %d" % choice.randrange(1, 5), ""]).encode()
@@ -232,7 +235,8 @@ def read_back(pictures: list[Picture], folder: str) -> int:
             continue
         differ = differing(row, pictures, folder)
         failed += bool(differ)
-        print("%-4s %-21s %d pictures with %d segments, point by point: %d differ%s" % (row.kind, row.reader, len(pictures), total, len(differ), told_of(differ)))
+        print("%-4s %-21s %d pictures with %d segments, point by point: %d differ%s" % (row.kind, row.reader, len(pictures), total, len(differ),
+                                                                                        told_of(differ)))
     lost = [picture.name for picture in pictures if not keeps_script(picture.path(folder, "svg"), picture)]
     print("svg  %-21s %d keep their title and script: %d don't%s" % ("plainly", len(pictures), len(lost), told_of(lost)))
     return failed + bool(lost) + png_rows(pictures, folder, missing["png"])

@@ -200,12 +200,14 @@ def in_threes(values: Sequence[Any]) -> list[Any]:
 
 
 def obj_by_assimp(paths: Sequence[str]) -> list[list[Run]]:
-    return [[(width_in(mesh["name"]), [points[end] for end in face]) for mesh in by_assimp(path) for points in [in_threes(mesh["vertices"])] for face in mesh["faces"]]
+    return [[(width_in(mesh["name"]), [points[end] for end in face]) for mesh in by_assimp(path) for points in [in_threes(mesh["vertices"])]
+             for face in mesh["faces"]]
             for path in paths]
 
 
 def tubes_by_assimp(paths: Sequence[str]) -> list[list[Run]]:
-    return [[run for mesh in by_assimp(path) for run in tubes_of(mesh["name"], in_threes(mesh["vertices"]), in_threes(mesh["normals"]), mesh["faces"])] for path in paths]
+    return [[run for mesh in by_assimp(path) for run in tubes_of(mesh["name"], in_threes(mesh["vertices"]), in_threes(mesh["normals"]),
+                                                                 mesh["faces"])] for path in paths]
 
 
 def plain_tubes(paths: Sequence[str]) -> list[list[Run]]:
@@ -235,7 +237,8 @@ def runs_of_glb(path: str) -> Iterator[Run]:
 def tubes_of(name: str, places: list[Point], outward: list[Point], faces: Sequence[Sequence[int]], sides: int = 8) -> Iterator[Run]:
     """The segments along which tubes go: from the middle of a ring to that of the next one that triangles lead to. Each point of a ring has to be
     as far from the tube's middle as its width says."""
-    middles = [tuple(sum(place[axis] for place in places[first:first + sides]) / sides for axis in range(3)) for first in range(0, len(places), sides)]
+    middles = [tuple(sum(place[axis] for place in places[first:first + sides]) / sides for axis in range(3))
+               for first in range(0, len(places), sides)]
     width, last = width_in(name), None
     for face in faces:
         rings = sorted({corner // sides for corner in face})
@@ -273,7 +276,8 @@ def seen_in_png(asked: list[Any]) -> list[Any]:
 def has_inkex() -> bool:
     if not os.path.isdir(os.path.join(INKEX, "inkex")):
         return False
-    return subprocess.run(["/usr/bin/python3", "-c", "import inkex"], env={**os.environ, "PYTHONPATH": INKEX}, stderr=subprocess.DEVNULL).returncode == 0
+    return subprocess.run(["/usr/bin/python3", "-c", "import inkex"], env={**os.environ, "PYTHONPATH": INKEX},
+                          stderr=subprocess.DEVNULL).returncode == 0
 
 
 def lacks(program: str, package: str) -> str:

@@ -22,16 +22,20 @@ JUNK = ["axiom F_aF_b", "axiom A()", "axiom A(9223372036854775808)", "axiom A(-9
         "axiom A]", "axiom [%]%", "depth", "depth -1", "depth 65", "depth 18446744073709551616", "production", "production p", "production p:",
         "production p: A", "production p: A = > B", "production p: !=>A", "production p: AB => C", "production main p: A => B",
         "production p: A < B < C => D", "production p: A > B > C => D", "production p: A < > B => C", "production p: A > [B => C",
-        "production p: A : 1 : 1 => B", "production p: A @ 1 @ 1 => B", "production p: A @ 1 : 1 => B", "production p: % => B", "production p: [A] => B",
+        "production p: A : 1 : 1 => B", "production p: A @ 1 @ 1 => B", "production p: A @ 1 : 1 => B", "production p: % => B",
+        "production p: [A] => B",
         "production p: A(x,x) => B", "production p: A(x) => B(y)", "production p: A(x) : 1<x<3 => B", "production a b c: A => B",
         "hom h: A < B => C", "hom h: A @ 1 => C", "hom h: A => B%", "hom main h: A => B", "hom h: A(x) => F(x%2)", "hom h", "hom h:",
         "undo x", "redo 1", "undo undo", "undo;", "Undo", "growth", "growth x", "growth 1 2", "growth -1", "growth 18446744073709551616",
         "bounds 1", "bounds x", "bounds bounds", "bounds;", "Bounds", "at", "at x", "at 1 2", "at -1", "at at", "at 18446744073709551616",
         "string 65", "string -1", "string string", "segments 1", "svg 2", "show all", "lattice", "lattice triangular", "lattice square cubic",
         "seed", "seed -1", "seed 18446744073709551616", "seed 18446744073709551615", "ignore [", "ignore A(1)", "ignore %", "schedule",
-        "version", "version 0", "version 3", "version 1", "version 18446744073709551615", "version 2 2", "ignoring", "ignoring main", "ignoring main A",
-        "ignoring main: A(1)", "ignoring main winter: A", "consider main: %", "consider :", "consider summer: A", "common", "common main main", "common main:",
-        "common summer", "lineage", "lineage name", "lineage names places", "lineage: names", "depth 256", "depth 257", "schedule main,main", "schedule 1", "drop", "drop p q", "axioms A", "Axiom A", "quit now", "\xff", "_", "1", ": =>", " ; note"]
+        "version", "version 0", "version 3", "version 1", "version 18446744073709551615", "version 2 2", "ignoring", "ignoring main",
+        "ignoring main A",
+        "ignoring main: A(1)", "ignoring main winter: A", "consider main: %", "consider :", "consider summer: A", "common", "common main main",
+        "common main:",
+        "common summer", "lineage", "lineage name", "lineage names places", "lineage: names", "depth 256", "depth 257", "schedule main,main",
+        "schedule 1", "drop", "drop p q", "axioms A", "Axiom A", "quit now", "\xff", "_", "1", ": =>", " ; note"]
 
 
 def sum_of(tokens: int) -> str:
@@ -104,7 +108,8 @@ class Writer:
         if not formals or self.often(0.3):
             return self.expression(formals)
         formal = self.rng.choice(formals)
-        return self.rng.choice([[formal], [formal], [formal, "-", "1"], [formal, "-", "1"], [formal, "+", "1"], [formal, "*", "2"], [formal, "*", formal],
+        return self.rng.choice([[formal], [formal], [formal, "-", "1"], [formal, "-", "1"], [formal, "+", "1"], [formal, "*", "2"],
+                                [formal, "*", formal],
                                 ["6", "/", formal], ["7", "%", formal], ["2", "^", formal], [formal, "+", self.rng.choice(formals)]])
 
     def name_and_count(self) -> tuple[str, int]:
@@ -170,7 +175,8 @@ class Writer:
         known = formals if self.often(0.98) else formals + ["unknown"]
         condition = [":"] + self.condition(known) if self.often(0.4 if formals else 0.1) else []
         weight = self.weight(table, pattern, known)
-        return left + pattern + right + condition + weight + ["=>"] + self.string(lambda: self.parameter(known), [0, 1, 1, 2, 2, 2, 3, 3, 10], self.cuts)
+        return left + pattern + right + condition + weight + ["=>"] + self.string(lambda: self.parameter(known), [0, 1, 1, 2, 2, 2, 3, 3, 10],
+                                                                                  self.cuts)
 
     # Each of the following gives a line.
 
@@ -196,7 +202,8 @@ class Writer:
         formals: list[str] = []
         pattern = self.pattern(formals)
         condition = [":"] + self.condition(formals) if self.often(0.3) else []
-        letters = self.rng.choice([["F"], ["F", "+"], ["F", "-", "f"], ["[", "+", "F", "]"], ["F", "(", "2", ")", "|"], ["!", "(", "3", ")", "F", "&", "F", "\\"]])
+        letters = self.rng.choice([["F"], ["F", "+"], ["F", "-", "f"], ["[", "+", "F", "]"], ["F", "(", "2", ")", "|"],
+                                   ["!", "(", "3", ")", "F", "&", "F", "\\"]])
         successor = letters if self.often(0.5) else self.string(lambda: self.parameter(formals), [0, 1, 1, 2, 3])
         label = self.rng.choice(HOM_LABELS if self.often(0.97) else LABELS)
         return self.text("hom %s: " % label, pattern + condition + ["=>"] + successor)
@@ -243,10 +250,12 @@ class Writer:
 
     def broken(self) -> str:
         """A line with one byte more, less or other, or without its end."""
-        line = self.rng.choice([self.axiom, self.production, self.production, self.hom, self.ignore, self.schedule, self.depth, self.level, self.at])()
+        line = self.rng.choice([self.axiom, self.production, self.production, self.hom, self.ignore, self.schedule, self.depth, self.level,
+                                self.at])()
         place = self.rng.randrange(len(line))
         byte = self.rng.choice(BYTES)
-        return self.rng.choice([line[:place] + byte + line[place:], line[:place] + line[place + 1:], line[:place] + byte + line[place + 1:], line[:place]])
+        return self.rng.choice([line[:place] + byte + line[place:], line[:place] + line[place + 1:], line[:place] + byte + line[place + 1:],
+                                line[:place]])
 
     def edge(self) -> str:
         """A line just inside or just outside a limit."""
@@ -273,8 +282,10 @@ class Writer:
             "axiom F(%d)" % (10**9 + more),
             ";" + "x" * (65535 + more)])
 
-    KINDS = {"axiom": 12, "production": 30, "hom": 6, "drop": 2, "ignore": 4, "own": 3, "common": 1, "lineage": 2, "version": 1, "schedule": 3, "seed": 3, "lattice": 4, "depth": 10, "string": 14, "level": 6,
-             "segments": 6, "svg": 4, "show": 3, "undo": 5, "redo": 3, "bounds": 3, "at": 5, "growth": 3, "broken": 8, "junk": 3, "edge": 1, "passed": 2, "quit": 0.5}
+    KINDS = {"axiom": 12, "production": 30, "hom": 6, "drop": 2, "ignore": 4, "own": 3, "common": 1, "lineage": 2, "version": 1, "schedule": 3,
+             "seed": 3, "lattice": 4, "depth": 10, "string": 14, "level": 6,
+             "segments": 6, "svg": 4, "show": 3, "undo": 5, "redo": 3, "bounds": 3, "at": 5, "growth": 3, "broken": 8, "junk": 3, "edge": 1,
+             "passed": 2, "quit": 0.5}
 
     def line(self) -> str:
         kind = self.rng.choices(list(self.KINDS), list(self.KINDS.values()))[0]
@@ -286,7 +297,8 @@ class Writer:
 
     def lines(self) -> Iterator[str]:
         if self.often(0.005):
-            yield from ("production r%d: %s => %s" % (number, self.names[number % 2], self.names[0]) for number in range(self.rng.choice([255, 256, 257])))
+            yield from ("production r%d: %s => %s" % (number, self.names[number % 2], self.names[0])
+                        for number in range(self.rng.choice([255, 256, 257])))
         if self.often(0.6):
             yield "version 2"
         if self.often(0.4):

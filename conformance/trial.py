@@ -20,13 +20,19 @@ ISLAND = "axiom F-F-F-F\nproduction f: F => F-F+F+FF-F-F+F\nproduction g: G => G
 # What the page shows, as one value.
 PAGE = """
 const at = id => document.getElementById(id), look = lookPage, canvas = at('picture'), state = look.state || {};
-return {script: look.lines().join('\\n').toWellFormed(), lines: Number(canvas.dataset.lines || -1), level: canvas.dataset.level, lattice: canvas.dataset.lattice,
-  view: ['scale', 'x', 'y', 'turn', 'tilt', 'spin'].map(name => Number(canvas.dataset[name])), fitted: canvas.dataset.fitted, told: at('told').textContent,
+return {script: look.lines().join('\\n').toWellFormed(), lines: Number(canvas.dataset.lines || -1), level: canvas.dataset.level,
+  lattice: canvas.dataset.lattice,
+  view: ['scale', 'x', 'y', 'turn', 'tilt', 'spin'].map(name => Number(canvas.dataset[name])), fitted: canvas.dataset.fitted,
+    told: at('told').textContent,
   counts: at('counts').dataset.counts, sent: state.sent, how: state.how, kept: at('kept').textContent, name: at('name').textContent,
-  notice: at('notice').hidden ? '' : at('notice').querySelector('span').textContent, question: at('question').hidden ? '' : at('question').querySelector('span').textContent,
-  stale: !at('stale').hidden, large: at('large').hidden ? '' : at('large').textContent, pending: look.desk.isPending(), levels: at('level_value').textContent,
-  refused: Array.from(document.querySelectorAll('.caret-reply'), each => each.textContent), replies: Array.from(document.querySelectorAll('.reply'), each => each.dataset.reply ?? each.textContent),
-  gallery: at('gallery').open, answer: at('answer').textContent, string: at('string').textContent, cut: at('string_cut').hidden ? '' : at('string_cut').textContent,
+  notice: at('notice').hidden ? '' : at('notice').querySelector('span').textContent, question: at('question').hidden ? ''
+    : at('question').querySelector('span').textContent,
+  stale: !at('stale').hidden, large: at('large').hidden ? '' : at('large').textContent, pending: look.desk.isPending(),
+    levels: at('level_value').textContent,
+  refused: Array.from(document.querySelectorAll('.caret-reply'), each => each.textContent),
+    replies: Array.from(document.querySelectorAll('.reply'), each => each.dataset.reply ?? each.textContent),
+  gallery: at('gallery').open, answer: at('answer').textContent, string: at('string').textContent, cut: at('string_cut').hidden ? ''
+    : at('string_cut').textContent,
   depth: at('depth_value').textContent, plain: at('editor').textContent.toWellFormed()};
 """
 
@@ -116,7 +122,8 @@ class Trial:
     def at_rest(self, selector: str) -> list[float]:
         """The top and the bottom of an element once it moves no more and no picture above it is on its way, and the height of what is seen."""
         # What is far below isn't fetched before one comes there.
-        script = ("const box = document.querySelector('%s').getBoundingClientRect(), isAbove = each => each.getClientRects().length && each.getBoundingClientRect().top <= box.bottom;"
+        script = ("const box = document.querySelector('%s').getBoundingClientRect(), isAbove = each => each.getClientRects().length && "
+                  "each.getBoundingClientRect().top <= box.bottom;"
                   " return [Array.from(document.images).some(each => !each.complete && isAbove(each)), box.top, box.bottom, innerHeight]" % selector)
         before: Any = None
         place: Any = None
@@ -140,7 +147,8 @@ class Trial:
     def caret_to(self, line: int, column: int) -> None:
         """Puts the cursor into the text, at a line from 0."""
         self.browser.run("const field = lookPage.field; field.focus(); if (field.field) field.field.setCursor(%d, %d); else {"
-                         " const lines = field.lines(); let at = %d; for (let n = 0; n < %d; n++) at += lines[n].length + 1; field.area.setSelectionRange(at, at); }"
+                         " const lines = field.lines(); let at = %d; for (let n = 0; n < %d; n++) at += lines[n].length + 1; "
+                         "field.area.setSelectionRange(at, at); }"
                          % (line, column, column, line))
 
     def client(self) -> Client:

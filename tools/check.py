@@ -46,9 +46,12 @@ def text_of(path: str) -> str:
 
 def jobs_for(program: str) -> list[tuple[str, list[str], str]]:
     """Each test's name, its words and its folder, those that take longest first."""
-    tests = [("tests of " + name, ["rt", "try", "--test", "--seconds", str(SECONDS)], os.path.join(TOP, "crates", name)) for name in crates_with_tests()]
-    checks = [("conformance/" + check, [os.path.join(TOP, "conformance", check.split()[0]), *check.split()[1:], "--program", program], TOP) for check in CHECKS]
-    return sorted(tests, key=lambda test: "program" not in test[0]) + checks + [("tools/" + tool, [os.path.join(TOP, "tools", tool)], TOP) for tool in ("unused", "proved")]
+    tests = [("tests of " + name, ["rt", "try", "--test", "--seconds", str(SECONDS)], os.path.join(TOP, "crates", name))
+             for name in crates_with_tests()]
+    checks = [("conformance/" + check, [os.path.join(TOP, "conformance", check.split()[0]), *check.split()[1:], "--program", program], TOP)
+              for check in CHECKS]
+    return sorted(tests, key=lambda test: "program" not in test[0]) + checks + [("tools/" + tool, [os.path.join(TOP, "tools", tool)], TOP)
+                                                                                for tool in ("unused", "proved")]
 
 
 def result_of_tests(said: str) -> tuple[bool, str]:

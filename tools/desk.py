@@ -278,7 +278,8 @@ class Desk:
         """Leaves the session at the lines before the one that was stopped, of which a program is begun anew in the background."""
         answered, told = len(self.session.replies), self.session.told
         is_in_turn = self.session.commands == commands and commands[answered:answered + 1] == [asked]
-        found = [answered] if is_in_turn else [number for number, line in enumerate(commands) if line == asked] or [max(0, min(answered, len(commands) - 1))]
+        found = [answered] if is_in_turn else [number for number, line in enumerate(commands)
+                                               if line == asked] or [max(0, min(answered, len(commands) - 1))]
         self.session.commands = commands[:found[-1]]
         self.session.replies = [told.get(key_of(line), "") if not is_query(line) else "" for line in self.session.commands]
         self.stopped = [self.places[found[-1]] if commands else 0, as_text(asked)[:200]]
@@ -341,7 +342,8 @@ class Desk:
         replies: list[list[Any]] = [list(pair) for pair in zip(self.places, session.replies)]
         refused = [place for place, reply in replies if reply.startswith("refused ")]
         told = replies[:MOST_REPLIES] + [pair for pair in replies[MOST_REPLIES:] if pair[1].startswith("refused ")][:MOST_REPLIES]
-        state = {"desk": self.sign, "turn": self.turn, "text": script.number, "name": script.name, "path": script.path, "saved": script.is_saved(), "kept": script.is_kept(),
+        state = {"desk": self.sign, "turn": self.turn, "text": script.number, "name": script.name, "path": script.path, "saved": script.is_saved(),
+                 "kept": script.is_kept(),
                  "asked": script.other is not None, "how": self.how, "sent": [[line[:200], reply] for line, reply in session.sent[-20:]],
                  "counts": self.counts, "replies": told, "hints": self.hinted, "left_out": len(replies) - len(told), "refused": len(refused),
                  "depth": session.depth(), "lattice": session.lattice(), "notice": self.notice, "running": session.program is not None,

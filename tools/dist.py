@@ -27,7 +27,8 @@ from programs import TOP, is_proved, program_of, shown
 from telling import Words, give_up, say
 
 TOOLS = ["run", "run.py", "repl", "repl.py", "look", "look.py", "export", "export.py", "desk.py", "faults.py", "figure.py", "film.py",
-         "formats.py", "guard.py", "hints.py", "known.py", "line_machine.json", "lineage.py", "machine.py", "mending.py", "polylines.py", "replies.py", "serving.py", "session.py", "sheets.py",
+         "formats.py", "guard.py", "hints.py", "known.py", "line_machine.json", "lineage.py", "machine.py", "mending.py", "polylines.py",
+         "replies.py", "serving.py", "session.py", "sheets.py",
          "texts.py", "tubes.py", "programs.py", "building.py", "processes.py", "telling.py", "watching.py"]
 COMMANDS = ["run", "repl", "look", "export"]
 INKSCAPE = ["lsys.inx", "lsys_inkscape.py"]

@@ -10,8 +10,8 @@ each width (cutters), by ezdxf, or single lines without it. Tubes: .glb and .glt
 has the LENGTH given, 10 in an SVG and 1 in the others; angles are exact, 60 degrees on the hexagonal lattice. A drawing is turned to the right
 by --turn; in space, --turn turns around what is up, 45 by default, and --tilt is from how far above one looks. The longer side of a PNG has N
 points, 2400 by default, and that of a PDF N millimetres, 200 by default; the ground is transparent, or has the COLOUR. Of a script that has
-a refusal nothing is written: the refusals are told, with what was wrong. SCRIPT may be `-` for standard input. Without --program a program is taken that is newer
-than its sources.
+a refusal nothing is written: the refusals are told, with what was wrong. SCRIPT may be `-` for standard input. Without --program a program
+is taken that is newer than its sources.
 
 With --sheet FILE, an .svg or a .png, gets pictures of variants beside each other, each drawn by a program of its own, as many at once as there
 are processors, and below each how much of it was asked anew of all against the script. VARIES is seed=1..9, depth=0..5, or 3.2=1..9/2: the

@@ -14,7 +14,8 @@ SECONDS = 3
 WORDS = re.compile(r"\s*(%s|\d+|\|\||&&|==|!=|<=|>=|[-+*/%%^!<>(),])" % NAME)
 LEVELS = [["||"], ["&&"], ["==", "!=", "<", "<=", ">", ">="], ["+", "-"], ["*", "/", "%"]]
 SYMBOL = re.compile(r"(%s|[-+&^\\/|!])(\([^)]*\))?" % NAME)
-SAYS = {"divide-by-zero": "`%s` divides by 0", "overflow": "`%s` is past 64 bits", "negative-power": "`%s` has a negative exponent", "negative-weight": "the weight `%s` is negative"}
+SAYS = {"divide-by-zero": "`%s` divides by 0", "overflow": "`%s` is past 64 bits", "negative-power": "`%s` has a negative exponent",
+        "negative-weight": "the weight `%s` is negative"}
 
 
 class Fault(Exception):
@@ -60,9 +61,12 @@ class Expression:
             return 0
         if sign in ("/", "%") and right == 0:
             raise Fault("divide-by-zero", self.part(begin))
-        made = {"||": lambda: int(left != 0 or right != 0), "&&": lambda: int(left != 0 and right != 0), "==": lambda: int(left == right), "!=": lambda: int(left != right),
-                "<": lambda: int(left < right), "<=": lambda: int(left <= right), ">": lambda: int(left > right), ">=": lambda: int(left >= right), "+": lambda: left + right,
-                "-": lambda: left - right, "*": lambda: left * right, "/": lambda: quotient(left, right), "%": lambda: left - quotient(left, right) * right}[sign]()
+        made = {"||": lambda: int(left != 0 or right != 0), "&&": lambda: int(left != 0 and right != 0), "==": lambda: int(left == right),
+                "!=": lambda: int(left != right),
+                "<": lambda: int(left < right), "<=": lambda: int(left <= right), ">": lambda: int(left > right), ">=": lambda: int(left >= right),
+                "+": lambda: left + right,
+                "-": lambda: left - right, "*": lambda: left * right, "/": lambda: quotient(left, right),
+                "%": lambda: left - quotient(left, right) * right}[sign]()
         return self.within(made, begin)
 
     def within(self, value: int, begin: int) -> int:
@@ -195,7 +199,9 @@ def told_of_fault(words: Sequence[str], taken: list[bytes], line: bytes, reply: 
     known = Known(sent)
     name, text = modules[number - 1]
     values = [int(value) for value in text.strip("()").split(",")] if text else []
-    where = ("level %d, module %d: %s" % (level, number, name + text)) if level is not None else "module %d of the last level: %s" % (number, name + text)
+    where = "module %d of the last level: %s" % (number, name + text)
+    if level is not None:
+        where = "level %d, module %d: %s" % (level, number, name + text)
     rules = known.rules_for(name, len(values), known.table_at(level) if level is not None else None)
     guilty = culprit(rules, values, found.group(1))
     if guilty and found.group(1) in SAYS:

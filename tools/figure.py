@@ -25,7 +25,8 @@ HALF, HEIGHT = 0.5, math.sqrt(3) / 2
 # drawn with the length 1 there, and in other views by the same scale.
 CORNER_TURN, CORNER_TILT, CORNER_SCALE = 45, math.degrees(math.asin(math.sqrt(1 / 3))), math.sqrt(1.5)
 # Where a place of a lattice is in space, and where it is drawn in the plane, upwards; a step has the length 1.
-SPACE: dict[str, Put] = {"square": lambda x, y, z: (x, y, 0), "hexagonal": lambda x, y, z: (x + HALF * y, HEIGHT * y, 0), "cubic": lambda x, y, z: (x, y, z)}
+SPACE: dict[str, Put] = {"square": lambda x, y, z: (x, y, 0), "hexagonal": lambda x, y, z: (x + HALF * y, HEIGHT * y, 0), "cubic": lambda x, y,
+                         z: (x, y, z)}
 PLANE: dict[str, Put] = {"square": lambda x, y, z: (x, y), "hexagonal": lambda x, y, z: (x + HALF * y, HEIGHT * y),
          "cubic": lambda x, y, z: (HEIGHT * (x - y), z - HALF * (x + y))}
 

@@ -56,7 +56,8 @@ def svg_of(levels: Sequence[str], lattice: str, pace: float, title: str) -> Iter
         shown = ";".join("visible" if each == place else "hidden" for each in range(many))
         yield "<g id=\"level_%d\" visibility=\"%s\">" % (place, "visible" if place == many - 1 else "hidden")
         if many > 1:
-            yield "<animate attributeName=\"visibility\" values=\"%s\" calcMode=\"discrete\" dur=\"%ss\" repeatCount=\"indefinite\"/>" % (shown, number(pace * many))
+            yield ("<animate attributeName=\"visibility\" values=\"%s\" calcMode=\"discrete\" dur=\"%ss\" repeatCount=\"indefinite\"/>"
+                   % (shown, number(pace * many)))
         yield from paths(figure)
         yield "</g>"
     yield "</g>"
@@ -73,7 +74,8 @@ def single_of(name: str, script: str, replies: list[list[Any]], levels: Sequence
     kept = {"name": name, "script": script, "replies": replies, "lattice": lattice, "pace": pace, "levels": levels}
     # Half pairs, by which bytes are told that are none of a sign, are written as escapes.
     data = json.dumps(kept).replace("</", "<\\/").replace("<!--", "<\\u0021--")
-    parts = {"name": html.escape(name), "drawing": re.sub(r"^export ", "", text_of("drawing.js"), flags=re.M), "player": text_of("single.js"), "data": data}
+    parts = {"name": html.escape(name), "drawing": re.sub(r"^export ", "", text_of("drawing.js"), flags=re.M), "player": text_of("single.js"),
+             "data": data}
     return re.sub(r"\{(name|drawing|player|data)\}", lambda word: parts[word.group(1)], text_of("single.html"))
 
 

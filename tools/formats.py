@@ -209,7 +209,8 @@ def dxf_by_another(python: str | None, is_flat: bool, runs: Runs) -> Written:
     """The DXF that another Python makes, where there is one that has ezdxf."""
     if python is None:
         return Written(text_of(dxf_lines(runs)), NO_EZDXF)
-    ran = subprocess.run([python, os.path.join(HERE, "polylines.py")], input=json.dumps([is_flat, runs]).encode(), stdout=subprocess.PIPE, stderr=subprocess.PIPE)
+    ran = subprocess.run([python, os.path.join(HERE, "polylines.py")], input=json.dumps([is_flat, runs]).encode(), stdout=subprocess.PIPE,
+                         stderr=subprocess.PIPE)
     if ran.returncode:
         raise Unfit("ezdxf makes no DXF of it: %s" % ran.stderr.decode(errors="replace").strip().split("\n")[-1])
     return Written(ran.stdout)
@@ -221,7 +222,8 @@ def dxf_lines(runs: Runs) -> Iterator[str]:
     for width, points in runs:
         texts = [tuple(number(value, PLACES) for value in point) for point in points]
         for start, stop in zip(texts, texts[1:]):
-            yield from ("0", "LINE", "8", "WIDTH_%d" % width, "10", start[0], "20", start[1], "30", start[2], "11", stop[0], "21", stop[1], "31", stop[2])
+            yield from ("0", "LINE", "8", "WIDTH_%d" % width, "10", start[0], "20", start[1], "30", start[2], "11", stop[0], "21", stop[1], "31",
+                        stop[2])
     yield from ("0", "ENDSEC", "0", "EOF")
 
 

@@ -72,7 +72,8 @@ class Example:
 
     def entry(self) -> str:
         """Its place in the contents: the last picture, which is mostly the finished one."""
-        image = "<img src=\"%s\" alt=\"\" loading=\"lazy\">" % self.files()[-1] if self.pictures else "<span>%s</span>" % html.escape(self.replies.split("\n")[-2][:60])
+        image = ("<img src=\"%s\" alt=\"\" loading=\"lazy\">" % self.files()[-1] if self.pictures
+                 else "<span>%s</span>" % html.escape(self.replies.split("\n")[-2][:60]))
         return "<li><a href=\"#%s\">%s%s</a></li>\n" % (self.name, image, self.name)
 
     def article(self) -> str:
@@ -128,16 +129,20 @@ def figure_at(place: int, name: str, figure: Figure) -> str:
     step = 10 if figure.lattice == "square" else 20
     box = box_of(figure, step, step)
     least = LEAST_LINE * max(map(float, box[2:])) / ROOM
-    paths = "".join("<path d=\"%s\" stroke-width=\"%s\"/>\n" % (path_of(points, step), number(max(width, least))) for width, points in figure.points(PLANE))
-    return "<svg x=\"%d\" y=\"%d\" width=\"%d\" height=\"%d\" viewBox=\"%s\">\n%s</svg>\n<text x=\"%d\" y=\"%d\" fill=\"black\" stroke=\"none\">%s</text>\n" % (
+    paths = "".join("<path d=\"%s\" stroke-width=\"%s\"/>\n" % (path_of(points, step), number(max(width, least))) for width,
+                    points in figure.points(PLANE))
+    return ("<svg x=\"%d\" y=\"%d\" width=\"%d\" height=\"%d\" viewBox=\"%s\">\n%s</svg>\n"
+            "<text x=\"%d\" y=\"%d\" fill=\"black\" stroke=\"none\">%s</text>\n") % (
         left, top, ROOM, ROOM, " ".join(box), paths, left + ROOM // 2, top + ROOM + NAME_ROOM - 8, name)
 
 
 def sheet(program: str, names: list[str]) -> Iterator[str]:
     rows = -(-len(names) // COLUMNS)
     width, height = COLUMNS * (ROOM + MARGIN) + MARGIN, rows * (ROOM + NAME_ROOM + MARGIN) + MARGIN
-    yield "<svg xmlns=\"http://www.w3.org/2000/svg\" viewBox=\"0 0 %d %d\">\n<rect width=\"100%%\" height=\"100%%\" fill=\"white\"/>\n" % (width, height)
-    yield "<g fill=\"none\" stroke=\"black\" stroke-linecap=\"round\" stroke-linejoin=\"round\" font-family=\"sans-serif\" font-size=\"14\" text-anchor=\"middle\">\n"
+    yield ("<svg xmlns=\"http://www.w3.org/2000/svg\" viewBox=\"0 0 %d %d\">\n<rect width=\"100%%\" height=\"100%%\" fill=\"white\"/>\n"
+           % (width, height))
+    yield ("<g fill=\"none\" stroke=\"black\" stroke-linecap=\"round\" stroke-linejoin=\"round\" font-family=\"sans-serif\" font-size=\"14\" "
+           "text-anchor=\"middle\">\n")
     for place, name in enumerate(names):
         with open(os.path.join(EXAMPLES, name + ".lsys"), "rb") as file:
             yield figure_at(place, name, figure_of(program, file.read()))

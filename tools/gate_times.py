@@ -112,7 +112,8 @@ def report(taken: Mapping[Step, float], clock: float) -> tuple[list[str], list[s
     kinds: dict[str, float] = collections.defaultdict(float)
     for (_, kind, _), seconds in taken.items():
         kinds[kind] += seconds
-    whole = "times: %d s on the clock; processor time of the prover %s" % (clock, ", ".join("%s %d s" % pair for pair in sorted(kinds.items(), key=lambda pair: -pair[1])) or "none")
+    sums = ", ".join("%s %d s" % pair for pair in sorted(kinds.items(), key=lambda pair: -pair[1])) or "none"
+    whole = "times: %d s on the clock; processor time of the prover %s" % (clock, sums)
     steps = sorted(taken.items(), key=lambda pair: -pair[1])
     dear = [line_of(*pair) + ", more than the %d s of an edit" % DEAR_EDIT for pair in steps if pair[0][1] == EDIT and pair[1] > DEAR_EDIT]
     every = [line_of(*pair) for pair in steps]

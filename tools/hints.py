@@ -12,7 +12,8 @@ from mending import nearest, quoted, syntax_hint, text_of
 
 # How many symbols all levels may have together: what holds without a word, and the most that can be asked for.
 LIMIT, MOST_LIMIT = 100000, 1000000
-RAISED_BY = {"terminal": "`--limit N` raises it, N from 1 to {:,}", "session": "`:limit N` raises it, N from 1 to {:,}", "page": "the field Limit raises it, from 1 to {:,}"}
+RAISED_BY = {"terminal": "`--limit N` raises it, N from 1 to {:,}", "session": "`:limit N` raises it, N from 1 to {:,}",
+             "page": "the field Limit raises it, from 1 to {:,}"}
 PLAIN = {
     "syntax long": "this line has more than 65,536 bytes: make several of it",
     "syntax deep": "this is nested more than 32 deep: work a part out in a parameter of the rule before",
@@ -21,15 +22,20 @@ PLAIN = {
     "place": "the picture has fewer symbols than this: `bounds` tells its size, and `at 0` its begin",
     "undo": "nothing can be undone here: no edit was taken before this line, or 32 were undone already",
     "redo": "nothing was undone since the last edit, so there is nothing to go on to",
-    "growth": "growth is told only where every module of a letter is rewritten alike: without contexts, conditions, parameters and weights that choose",
+    "growth": "growth is told only where every module of a letter is rewritten alike: without contexts, conditions, parameters and weights that "
+              "choose",
     "letters": "growth is told for at most 63 letters: use fewer",
     "overflow": "the level would have 2^128 symbols or more: ask for a smaller one",
     "memory": "there is no memory for it: take less depth, or end other programs",
 }
-FAULTS = {"overflow": "a number would have more than 64 bits", "divide-by-zero": "something is divided by 0", "negative-power": "a power has a negative exponent",
-          "negative-weight": "a weight is negative", "weight-total": "the weights of the rules that apply sum to too much", "too-far": "the contexts read more than 1,024 modules"}
-HELPS = {"overflow": "a condition that ends the growth helps, as : x < 1000", "divide-by-zero": "a condition helps, as : y != 0", "negative-power": "a condition helps, as : x >= 0",
-         "negative-weight": "a condition helps, as : x >= 0", "weight-total": "smaller weights help", "too-far": "`ignore` fewer names, or a context that is nearer, helps"}
+FAULTS = {"overflow": "a number would have more than 64 bits", "divide-by-zero": "something is divided by 0",
+          "negative-power": "a power has a negative exponent",
+          "negative-weight": "a weight is negative", "weight-total": "the weights of the rules that apply sum to too much",
+          "too-far": "the contexts read more than 1,024 modules"}
+HELPS = {"overflow": "a condition that ends the growth helps, as : x < 1000", "divide-by-zero": "a condition helps, as : y != 0",
+         "negative-power": "a condition helps, as : x >= 0",
+         "negative-weight": "a condition helps, as : x >= 0", "weight-total": "smaller weights help",
+         "too-far": "`ignore` fewer names, or a context that is nearer, helps"}
 
 
 class Hint:
@@ -73,7 +79,8 @@ def of_label(line: bytes, column: int, known: Known) -> Hint:
     label, word = word_at(line, column), text_of(line).split()[0]
     if word == "drop":
         near = nearest(label, list(known.rules))
-        told = "no rule has the label `%s`: %s" % (label, "there are %s" % quoted(list(known.rules)[:20], "and") if known.rules else "no rule was put yet")
+        told = "no rule has the label `%s`: %s" % (label, "there are %s" % quoted(list(known.rules)[:20], "and") if known.rules
+                                                   else "no rule was put yet")
         return Hint(told + ("; did you mean `%s`?" % near if near else ""), with_word(line, column, near) if near else None)
     other = known.rules.get(label)
     where = "in the homomorphism" if other and other.kind == "hom" else "in the table `%s`" % other.table if other else "elsewhere"
@@ -115,17 +122,20 @@ def of_many(line: bytes, column: int, known: Known) -> Hint:
     text = text_of(line)
     word = text.split()[0]
     if word == "depth":
-        return Hint("depth is at most 64, and in version 2 at most 256" + ("" if known.version() > 1 else ": `version 2` at the head of the script allows more"))
+        return Hint("depth is at most 64, and in version 2 at most 256"
+                    + ("" if known.version() > 1 else ": `version 2` at the head of the script allows more"))
     if word in ("ignore", "ignoring", "consider"):
         return Hint("at most 64 names are listed: leave those out that don't stand between others")
     if word == "schedule":
         return Hint("a schedule has at most 64 words: it begins anew behind its last one")
     before = text[:column - 1]
     if word == "axiom":
-        return Hint(PARAMETERS if before.count("(") > before.count(")") else "an axiom has at most 4,096 symbols: let a production make more of fewer")
+        return Hint(PARAMETERS if before.count("(") > before.count(")")
+                    else "an axiom has at most 4,096 symbols: let a production make more of fewer")
     if word == "production" and before.count(":") == 0:
         of_rules = len(known.rules) >= 256
-        return Hint("there are at most 256 rules, and this is one more: drop some" if of_rules else "there are at most 16 tables, and this is one more")
+        return Hint("there are at most 256 rules, and this is one more: drop some" if of_rules
+                    else "there are at most 16 tables, and this is one more")
     successor = before.partition("=>")[2]
     if before.count("(") > before.count(")"):
         depth = len(re.findall(r"[\w]+|\S", before[before.rindex("("):]))
@@ -137,7 +147,8 @@ def of_many(line: bytes, column: int, known: Known) -> Hint:
 
 PARAMETERS = "a module has at most 8 parameters: use fewer, or a second module for the others"
 AT_COLUMN = {"name": of_name, "label": of_label, "table": of_table, "mixed": of_mixed, "level": of_level, "many": of_many, "version": of_version,
-             "duplicate": lambda line, column, known: Hint("the parameter `%s` stands in this pattern already: each has a name of its own" % word_at(line, column))}
+             "duplicate": lambda line, column, known: Hint(
+                 "the parameter `%s` stands in this pattern already: each has a name of its own" % word_at(line, column))}
 # Replies of which what is meant is read off the line and the column.
 COLUMN = re.compile(r"refused (%s) (\d+)" % "|".join(AT_COLUMN))
 

@@ -79,7 +79,8 @@ class Known:
                 self.rules, self.settings = left.pop()
             return
         rule = rule_of(text)
-        if rule or word in ("drop", "axiom", "ignore", "schedule", "seed", "depth", "lattice", "version", "ignoring", "consider", "common", "lineage"):
+        if rule or word in ("drop", "axiom", "ignore", "schedule", "seed", "depth", "lattice", "version", "ignoring", "consider", "common",
+                            "lineage"):
             self.past, self.future = (self.past + [(dict(self.rules), dict(self.settings))])[-32:], []
         if rule:
             self.rules[rule.label] = rule

@@ -137,7 +137,8 @@ def whole(text: str) -> Any:
 def without_module(tree: Any) -> Any:
     """Names without the module that they come from; `b.head` is a part of a record."""
     if isinstance(tree, dict):
-        return {key: (value if key in ("by", "text") else {name: without_module(part) for name, part in value.items()} if key == "record" else without_module(value))
+        return {key: (value if key in ("by", "text") else {name: without_module(part) for name, part in value.items()} if key == "record"
+                      else without_module(value))
                 for key, value in tree.items()}
     if not isinstance(tree, list):
         return tree
@@ -219,7 +220,8 @@ def main() -> int:
     if options.check:
         with open(KEPT, encoding="utf-8") as file:
             is_current = file.read() == text
-        print("tools/line_machine.json is %s" % ("what the definitions give" if is_current else "NOT what the definitions give: run tools/line_machine"))
+        print("tools/line_machine.json is %s" % ("what the definitions give" if is_current
+                                                 else "NOT what the definitions give: run tools/line_machine"))
         return 0 if is_current else 1
     with open(KEPT, "w", encoding="utf-8") as file:
         file.write(text)

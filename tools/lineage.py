@@ -29,7 +29,8 @@ class Untold(Exception):
 
 
 class Rule:
-    """A rule as `show` has it: its table, or None for one of the homomorphism, its label, what stands before the arrow, and the names that it puts."""
+    """A rule as `show` has it: its table, or None for one of the homomorphism, its label, what stands before the arrow, and the names that it
+    puts."""
 
     def __init__(self, found: re.Match[str], line: str) -> None:
         self.table, self.label, self.front, self.line = found.group(2), found.group(3), found.group(4), line
@@ -164,7 +165,8 @@ class Lineage:
         """Level 0, which is what no cut takes from the axiom."""
         names = [name for name, _ in symbols(self.axiom)]
         places, numbers = kept(names), self.numbers(names)
-        self.levels.append(Level(self.ask("string 0"), [None] * len(places), [numbers[place] for place in places], [names[place] for place in places]))
+        self.levels.append(Level(self.ask("string 0"), [None] * len(places), [numbers[place] for place in places],
+                                 [names[place] for place in places]))
 
     def numbers(self, names: list[str]) -> list[int | str]:
         """Which child each of these is: its place, or its name and how many of its name stand before it."""
@@ -199,7 +201,8 @@ class Lineage:
         places = kept(names)
         self.send(["depth %d" % number, "schedule " + " ".join(self.schedule), "depth %d" % (number + 1)])
         text = self.ask("string %d" % (number + 1))
-        self.levels.append(Level(text, [parents[place] for place in places], [numbers[place] for place in places], [names[place] for place in places]))
+        self.levels.append(Level(text, [parents[place] for place in places], [numbers[place] for place in places],
+                                 [names[place] for place in places]))
 
     def drawn(self, number: int) -> Level:
         """The level with the first segment of each of its symbols, and behind the last one how many there are."""
@@ -220,7 +223,8 @@ class Lineage:
         """What is told of the module of level `number` that drew a segment of that level's picture, which has `count`."""
         level = self.drawn(number)
         if level.begins[-1] != count:
-            raise Untold("the modules would draw %d lines and the picture has %d, so it can't be told which one drew this" % (level.begins[-1], count))
+            raise Untold("the modules would draw %d lines and the picture has %d, so it can't be told which one drew this"
+                         % (level.begins[-1], count))
         low, high = 0, len(level.names)
         while high - low > 1:
             middle = (low + high) // 2

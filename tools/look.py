@@ -5,8 +5,9 @@ usage: tools/look [SCRIPT|FILE.html|LINK] [--port N] [--program PATH] [--limit N
 It keeps one program running, and all that the page shows are the program's replies: a change of the script sends its changed lines as
 edits where that is enough, so that `ok M/T` tells how little was worked out anew, and else begins the program anew. Saving writes
 SCRIPT, which is made then where there is none yet, and what another program saves there is taken over. An HTML file that the page wrote,
-and a link that holds a script, are opened for their script, and stay as they are. The page is served at 127.0.0.1 alone, to browsers of the person that began it: the address that is printed opens it once, and then the browser that opened it has a
-cookie. It is opened in a browser where there is one, but for --no-browser. The text field is CodeMirror where that is installed
+and a link that holds a script, are opened for their script, and stay as they are. The page is served at 127.0.0.1 alone, to browsers of the
+person that began it: the address that is printed opens it once, and then the browser that opened it has a cookie. It is opened in a browser
+where there is one, but for --no-browser. The text field is CodeMirror where that is installed
 (libjs-codemirror), and else, or with --plain, a plain one. Export gives the files that tools/export writes, turned as the picture is.
 N symbols, 1 to 1,000,000, may all levels have together. Ctrl-C ends it.
 """

@@ -14,8 +14,10 @@ from typing import Any
 
 Kind = tuple[Any, ...]
 HERE = os.path.dirname(os.path.realpath(__file__))
-MARKS = {b"=>": "Arrow", b"==": "Equal", b"!=": "Unequal", b"<=": "AtMost", b">=": "AtLeast", b"(": "LeftParen", b")": "RightParen", b"[": "LeftBracket",
-         b"]": "RightBracket", b",": "Comma", b":": "Colon", b"@": "At", b"+": "Plus", b"-": "Minus", b"*": "Times", b"/": "Slash", b"\\": "Backslash",
+MARKS = {b"=>": "Arrow", b"==": "Equal", b"!=": "Unequal", b"<=": "AtMost", b">=": "AtLeast", b"(": "LeftParen", b")": "RightParen",
+         b"[": "LeftBracket",
+         b"]": "RightBracket", b",": "Comma", b":": "Colon", b"@": "At", b"+": "Plus", b"-": "Minus", b"*": "Times", b"/": "Slash",
+         b"\\": "Backslash",
          b"%": "Percent", b"&": "Ampersand", b"|": "Bar", b"^": "Caret", b"!": "Bang", b"<": "Less", b">": "Greater", b"=": "Assign"}
 SIGNS = {kind: mark.decode() for mark, kind in MARKS.items()}
 WORD, NAME, DIGITS = re.compile(rb"[A-Za-z][A-Za-z0-9_]*"), re.compile(rb"[A-Za-z](?:_[A-Za-z0-9]{1,6})?"), re.compile(rb"[0-9]+")
@@ -78,7 +80,8 @@ class Machine:
 
     def __init__(self, kept: dict[str, Any]) -> None:
         self.functions, self.constructors = kept["functions"], set(kept["constructors"])
-        self.built_in: dict[str, tuple[int, Callable[..., Any]]] = {"nat_lt": (2, lambda a, b: a < b), "nat_le": (2, lambda a, b: a <= b), "bytes_eq": (2, lambda a, b: a == b), "codes": (1, lambda text: text),
+        self.built_in: dict[str, tuple[int, Callable[..., Any]]] = {"nat_lt": (2, lambda a, b: a < b), "nat_le": (2, lambda a, b: a <= b),
+                                                                    "bytes_eq": (2, lambda a, b: a == b), "codes": (1, lambda text: text),
                          "option_map": (2, lambda f, o: o if o == ("None",) else ("Some", self.apply(f, [o[1]]))), "+": (2, lambda a, b: a + b),
                          "-": (2, lambda a, b: max(0, a - b)), "^": (2, lambda a, b: a ** b)}
 

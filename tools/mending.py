@@ -16,31 +16,43 @@ QUERIES_OF_DESK = ["bounds", "at", "growth", "undo", "redo"]
 WORDS = sorted(COMMANDS + QUERIES_OF_DESK)
 # Arrows of other notations, and signs that look like those of the language.
 ARROWS = ["-->", "==>", "->", "\u2192", "\u21d2", "\u27f6", "\u21a6", "\u279c", "\\to", ":="]
-LOOKALIKES = {"\u2212": "-", "\u2013": "-", "\u2014": "-", "\u00a0": " ", "\uff0b": "+", "\uff08": "(", "\uff09": ")", "\uff3b": "[", "\uff3d": "]", "\uff1a": ":",
+LOOKALIKES = {"\u2212": "-", "\u2013": "-", "\u2014": "-", "\u00a0": " ", "\uff0b": "+", "\uff08": "(", "\uff09": ")", "\uff3b": "[", "\uff3d": "]",
+              "\uff1a": ":",
               "\u00d7": "*", "\u2264": "<=", "\u2265": ">=", "\u2260": "!="}
 # Words of other tools: what is told, and the line that is meant.
 LENGTHS = "lines are as long as a step of the lattice: F(2) draws one of two steps"
 FOREIGN = {
     "angle": "angle", "delta": "angle", "degrees": "angle", "turn": "angle", "rotate": "angle",
     "start": "axiom", "init": "axiom", "initial": "axiom", "omega": "axiom", "w": "axiom", "seedstring": "axiom", "begin": "axiom",
-    "iterations": "depth", "iteration": "depth", "iterate": "depth", "generations": "depth", "generation": "depth", "n": "depth", "order": "depth", "steps": "depth",
+    "iterations": "depth", "iteration": "depth", "iterate": "depth", "generations": "depth", "generation": "depth", "n": "depth", "order": "depth",
+    "steps": "depth",
     "derivation": "depth", "recursion": "depth", "recursions": "depth", "level": "depth", "levels": "depth", "gen": "depth", "niter": "depth",
     "rule": "production", "rules": "production", "replace": "production", "rewrite": "production",
-    "draw": "svg", "render": "svg", "picture": "svg", "plot": "svg", "paint": "svg", "image": "svg", "print": "string", "output": "string", "write": "string",
-    "exit": "quit", "bye": "quit", "end": "quit", "stop": "quit", "delete": "drop", "remove": "drop", "homomorphism": "hom", "table": "schedule", "constants": "ignore",
+    "draw": "svg", "render": "svg", "picture": "svg", "plot": "svg", "paint": "svg", "image": "svg", "print": "string", "output": "string",
+    "write": "string",
+    "exit": "quit", "bye": "quit", "end": "quit", "stop": "quit", "delete": "drop", "remove": "drop", "homomorphism": "hom", "table": "schedule",
+    "constants": "ignore",
     "random": "seed", "randomseed": "seed"}
 NO_SUCH = {
-    "color": "there are no colours: width is all that a line has, and !(3) sets it", "colour": "there are no colours: width is all that a line has, and !(3) sets it",
-    "width": "the width is set in the string, by !(3)", "linewidth": "the width is set in the string, by !(3)", "thickness": "the width is set in the string, by !(3)",
+    "color": "there are no colours: width is all that a line has, and !(3) sets it",
+    "colour": "there are no colours: width is all that a line has, and !(3) sets it",
+    "width": "the width is set in the string, by !(3)", "linewidth": "the width is set in the string, by !(3)",
+    "thickness": "the width is set in the string, by !(3)",
     "length": LENGTHS, "step": LENGTHS, "scale": LENGTHS, "size": LENGTHS, "distance": LENGTHS,
-    "tropism": "there is no tropism: a production or a homomorphism bends a branch", "gravity": "there is no gravity: a production or a homomorphism bends a branch",
-    "define": "there are no constants: write the number itself, or give it as a parameter, as in F(3)", "let": "there are no constants: write the number itself, or give it as a parameter, as in F(3)",
-    "var": "no letters are announced: each letter is one", "variables": "no letters are announced: each letter is one", "alphabet": "no letters are announced: each letter is one",
+    "tropism": "there is no tropism: a production or a homomorphism bends a branch",
+    "gravity": "there is no gravity: a production or a homomorphism bends a branch",
+    "define": "there are no constants: write the number itself, or give it as a parameter, as in F(3)",
+    "let": "there are no constants: write the number itself, or give it as a parameter, as in F(3)",
+    "var": "no letters are announced: each letter is one", "variables": "no letters are announced: each letter is one",
+    "alphabet": "no letters are announced: each letter is one",
     "import": "a script is one file: put the other one's lines here", "include": "a script is one file: put the other one's lines here",
-    "help": "the language is told in docs/LANGUAGE.md, in the page under Help, and by `lsys-run --help`", "if": "a condition stands in a production, as in production p: A(x) : x > 0 => B",
+    "help": "the language is told in docs/LANGUAGE.md, in the page under Help, and by `lsys-run --help`",
+    "if": "a condition stands in a production, as in production p: A(x) : x > 0 => B",
     "for": "a derivation repeats by itself: depth 5 makes five steps", "while": "a derivation repeats by itself: depth 5 makes five steps",
-    "clear": "a script begins with nothing: take its lines out, or begin another one", "reset": "a script begins with nothing: take its lines out, or begin another one",
-    "save": "the page and lsys-repl save a script; `svg` draws the picture", "open": "the page and lsys-repl open a script", "load": "the page and lsys-repl open a script"}
+    "clear": "a script begins with nothing: take its lines out, or begin another one",
+    "reset": "a script begins with nothing: take its lines out, or begin another one",
+    "save": "the page and lsys-repl save a script; `svg` draws the picture", "open": "the page and lsys-repl open a script",
+    "load": "the page and lsys-repl open a script"}
 DECIMALS = "numbers are whole, and this has a part behind its point"
 
 
@@ -104,7 +116,8 @@ def label_for(name: str, known: Known) -> str:
 
 
 # A production in another notation: a label perhaps, a pattern, an arrow of some kind, and what becomes of it.
-FOREIGN_RULE = re.compile(r"\s*(?:[pP]\d*\s*[:.)]\s*)?(%s(?:\([^()]*\))?)\s*(-->|->|==>|=>|:=|[\u2192\u21d2\u27f6\u21a6\u279c]|\\to\b|=|:)\s*(\S.*?)\s*;?\s*$" % NAME)
+FOREIGN_RULE = re.compile(r"\s*(?:[pP]\d*\s*[:.)]\s*)?(%s(?:\([^()]*\))?)\s*"
+                          r"(-->|->|==>|=>|:=|[\u2192\u21d2\u27f6\u21a6\u279c]|\\to\b|=|:)\s*(\S.*?)\s*;?\s*$" % NAME)
 
 
 def foreign_rule(text: str, known: Known) -> str | None:
@@ -118,13 +131,18 @@ def foreign_rule(text: str, known: Known) -> str | None:
 
 
 # What is told of each state of the machine where no case below fits.
-DUE = {"ProductionDue": "a label of your choice, as in `production p: A => AB`", "OneWord": "`:` behind the label", "TwoWords": "`:` behind the label",
-       "LabelDue": "a label of your choice, as in `hom h: A => F`", "LabelRead": "`:` behind the label", "DropDue": "the label of a rule", "ScheduleDue": "the names of tables",
-       "InSchedule": "the name of a table, or the end of the line", "SeedDue": "a whole number", "DepthDue": "a whole number, of the steps that are made", "StringRead": "a level's number, or the end of the line",
-       "VersionDue": "`1` or `2`", "TableDue": "the name of a table", "TableRead": "`:` and names", "CommonDue": "the name of a table", "InNames": "a name, a turtle's sign, or the end of the line"}
+DUE = {"ProductionDue": "a label of your choice, as in `production p: A => AB`", "OneWord": "`:` behind the label",
+       "TwoWords": "`:` behind the label",
+       "LabelDue": "a label of your choice, as in `hom h: A => F`", "LabelRead": "`:` behind the label", "DropDue": "the label of a rule",
+       "ScheduleDue": "the names of tables",
+       "InSchedule": "the name of a table, or the end of the line", "SeedDue": "a whole number",
+       "DepthDue": "a whole number, of the steps that are made", "StringRead": "a level's number, or the end of the line",
+       "VersionDue": "`1` or `2`", "TableDue": "the name of a table", "TableRead": "`:` and names", "CommonDue": "the name of a table",
+       "InNames": "a name, a turtle's sign, or the end of the line"}
 MODULE_SIGNS = {"Plus", "Minus", "Ampersand", "Caret", "Backslash", "Slash", "Bar", "Bang"}
 MEANT = [("Arrow", "`=>`"), ("Colon", "`:` and a condition"), ("At", "`@` and a weight"), ("Name", "a module"), ("LeftParen", "`(` and parameters"),
-         ("Less", "`<` behind a left context"), ("Greater", "`>` and a right context"), ("LeftBracket", "`[`"), ("RightBracket", "`]`"), ("Percent", "`%`, a cut"),
+         ("Less", "`<` behind a left context"), ("Greater", "`>` and a right context"), ("LeftBracket", "`[`"), ("RightBracket", "`]`"),
+         ("Percent", "`%`, a cut"),
          ("Comma", "`,` and one more"), ("RightParen", "`)`"), ("Number", "a whole number")]
 OPERATORS = {"Plus", "Minus", "Times", "Slash", "Percent", "Caret", "Equal", "Unequal", "Less", "Greater", "AtMost", "AtLeast", "Ampersand", "Bar"}
 
@@ -271,10 +289,15 @@ def lookalike(case: Case) -> Told | None:
     return offered("this is another sign than `%s`, which was meant" % LOOKALIKES[case.here], text)
 
 
-STRANGE = {"{": "there are no surfaces: `{` and `}` belong to another tool, and `[` `]` begin and end a branch", "}": "there are no surfaces: `{` and `}` belong to another tool, and `[` `]` begin and end a branch",
-           "~": "`~` draws a surface elsewhere, and there are none here: a homomorphism says what a letter looks like, as in `hom h: L => F`", "$": "`$` turns upright elsewhere: here turns are `+ - & ^ \\ / |`",
-           "\"": "texts stand without quotes", "'": "texts stand without quotes", ".": "a point belongs to no word of the language, and numbers are whole: take it out", "?": "queries are `string`, `svg`, `show`, `bounds`, `at N`",
-           "#": "a comment begins with `;` and stands on a line of its own", "_": "a name is a letter, or a letter, `_` and up to six letters or digits"}
+STRANGE = {"{": "there are no surfaces: `{` and `}` belong to another tool, and `[` `]` begin and end a branch",
+           "}": "there are no surfaces: `{` and `}` belong to another tool, and `[` `]` begin and end a branch",
+           "~": "`~` draws a surface elsewhere, and there are none here: a homomorphism says what a letter looks like, as in `hom h: L => F`",
+           "$": "`$` turns upright elsewhere: here turns are `+ - & ^ \\ / |`",
+           "\"": "texts stand without quotes", "'": "texts stand without quotes",
+           ".": "a point belongs to no word of the language, and numbers are whole: take it out",
+           "?": "queries are `string`, `svg`, `show`, `bounds`, `at N`",
+           "#": "a comment begins with `;` and stands on a line of its own",
+           "_": "a name is a letter, or a letter, `_` and up to six letters or digits"}
 
 
 def strange_sign(case: Case) -> Told | None:
@@ -283,12 +306,15 @@ def strange_sign(case: Case) -> Told | None:
         return None
     if case.here in "\"'" and is_meant(re.sub("[\"']", "", case.text)):
         return offered(STRANGE["\""], re.sub("[\"']", "", case.text))
-    return STRANGE.get(case.here, "`%s` belongs to no word of the language: letters, digits and + - & ^ \\ / | ! [ ] %% do" % (case.here if case.here.isprintable() else "this")), None
+    sign = case.here if case.here.isprintable() else "this"
+    unknown = "`%s` belongs to no word of the language: letters, digits and + - & ^ \\ / | ! [ ] %% do" % sign
+    return STRANGE.get(case.here, unknown), None
 
 
 def setting(case: Case) -> Told | None:
     """A colon or an equals sign behind a word that takes its value at once: `axiom: F`, `depth = 5`."""
-    found = re.match(r"\s*(%s)\s*(:=|=|:)\s*(.*)" % "|".join(("axiom", "depth", "seed", "lattice", "string", "ignore", "schedule", "version", "drop", "lineage")), case.text)
+    found = re.match(r"\s*(%s)\s*(:=|=|:)\s*(.*)" % "|".join(("axiom", "depth", "seed", "lattice", "string", "ignore", "schedule", "version", "drop",
+                                                              "lineage")), case.text)
     if not found or len(case.before.strip()) > len(found.group(1)):
         return None
     return offered("`%s` takes what it sets at once, without `%s`" % found.group(1, 2), "%s %s" % found.group(1, 3))
@@ -353,11 +379,13 @@ def label(case: Case) -> Told | None:
     kind = case.kind()
     if kind == "LeftParen" and ":" in case.behind.partition("=>")[0] and case.state in ("OneWord", "LabelRead"):
         return "a label is a word alone: parameters stand behind the module, as in `production p: A(x) => B(x)`", None
-    if case.state in ("OneWord", "ProductionDue", "LabelDue", "LabelRead") and kind in ("Arrow", "LeftParen", "Less", "Greater", "At", "Assign", "Minus", "Colon", ""):
+    if case.state in ("OneWord", "ProductionDue", "LabelDue", "LabelRead") and kind in ("Arrow", "LeftParen", "Less", "Greater", "At", "Assign",
+                                                                                        "Minus", "Colon", ""):
         body = re.sub(r"^:\s*", "", re.sub(r"\s*(->|\u2192|=(?![>=]))\s*", " => ", rest))
         found = re.match(r"(%s)" % NAME, body)
         if found and "=>" in body:
-            return offered("a label is missing: each rule has one of your choice, with a `:` behind it", "%s %s: %s" % (case.word, label_for(found.group(1), case.known), body))
+            return offered("a label is missing: each rule has one of your choice, with a `:` behind it",
+                           "%s %s: %s" % (case.word, label_for(found.group(1), case.known), body))
     if kind == "LongWord":
         return "a label or a table has at most 16 signs: take a shorter one", None
     if case.state in ("ProductionDue", "LabelDue") and kind == "Number":
@@ -386,7 +414,8 @@ def brackets(case: Case) -> Told | None:
     if not opened:
         return None
     place, sign = opened[-1]
-    return "the `%s` at column %d isn't closed: a `%s` is missing behind it" % (sign, len(case.text[:place].encode("utf-8", "surrogateescape")) + 1, {"[": "]", "(": ")"}[sign]), None
+    return "the `%s` at column %d isn't closed: a `%s` is missing behind it" % (sign, len(case.text[:place].encode("utf-8", "surrogateescape")) + 1,
+                                                                                {"[": "]", "(": ")"}[sign]), None
 
 
 def second_arrow(case: Case) -> Told | None:
@@ -415,12 +444,14 @@ def pattern(case: Case) -> Told | None:
         found = re.search(r"\((\d+)\)", case.text)
         if found and "=>" in case.text and ":" not in case.text.split(":", 1)[1].split("=>")[0]:
             front, arrow, rest = case.text.partition("=>")
-            return offered("a pattern has names for parameters, and a condition tells their values", front.replace("(%s)" % found.group(1), "(x)", 1).rstrip() + " : x == %s " % found.group(1) + arrow + rest)
+            return offered("a pattern has names for parameters, and a condition tells their values",
+                           front.replace("(%s)" % found.group(1), "(x)", 1).rstrip() + " : x == %s " % found.group(1) + arrow + rest)
         return "a pattern has names for parameters, as F(x), and a condition tells their values, as : x == 2", None
     if case.rule[0] == "Formals" and kind in ("Arrow", "Colon", "At") and case.rule[2] == ("[]",):
         return "the module that the rule is for is missing before `%s`" % SIGNS[kind], None
     if case.rule[0] == "Formals" and kind in ("Arrow", "Colon", "At"):
-        return "a rule is for one module: what stands before it is a left context with `<`, as in A < B, and what stands behind it a right one with `>`", None
+        return ("a rule is for one module: what stands before it is a left context with `<`, as in A < B, and what stands behind it a right one "
+                "with `>`", None)
     if case.rule[0] == "Formals" and kind == "Less":
         return "the left context stands first, then the module, then the right context: A < B > C", None
     return None
@@ -445,16 +476,19 @@ def number_due(case: Case) -> Told | None:
     """Another thing where a number or one of a few words is wanted."""
     kind = case.kind()
     if case.state in ("DepthDue", "SeedDue", "VersionDue", "StringRead"):
-        number = {"one": 1, "two": 2, "three": 3, "four": 4, "five": 5, "six": 6, "seven": 7, "eight": 8, "nine": 9, "ten": 10}.get(case.behind.strip().lower())
+        number = {"one": 1, "two": 2, "three": 3, "four": 4, "five": 5, "six": 6, "seven": 7, "eight": 8, "nine": 9,
+                  "ten": 10}.get(case.behind.strip().lower())
         if number:
             return offered("numbers are written by digits", "%s %d" % (case.word, number))
         if kind == "Minus":
             return "this number has no sign: it is 0 or more", None
-        return {"VersionDue": "`version 1` and `version 2` are the versions", "StringRead": "`string` is followed by the number of a level, as in `string 3`, or by nothing"}.get(
+        return {"VersionDue": "`version 1` and `version 2` are the versions",
+                "StringRead": "`string` is followed by the number of a level, as in `string 3`, or by nothing"}.get(
             case.state, "`%s` is followed by a whole number, as in `%s 5`" % (case.word, case.word)), None
     if case.state in ("LatticeDue", "NumberingDue"):
         words = case.stop.expected()[1]
-        meant = {"triangular": "hexagonal", "triangle": "hexagonal", "60": "hexagonal", "90": "square", "rectangular": "square", "3d": "cubic", "cube": "cubic"}.get(case.behind.strip().lower())
+        meant = {"triangular": "hexagonal", "triangle": "hexagonal", "60": "hexagonal", "90": "square", "rectangular": "square", "3d": "cubic",
+                 "cube": "cubic"}.get(case.behind.strip().lower())
         near = meant if meant in words else nearest(case.behind.strip(), words)
         told = "here: %s" % quoted(words)
         return offered("did you mean `%s`? %s" % (near, told), "%s %s" % (case.word, near)) if near else (told, None)
@@ -469,7 +503,8 @@ def nothing_more(case: Case) -> Told | None:
     return offered(told, case.before.rstrip()) if case.behind.strip() else (told, None)
 
 
-CASES = [desk_line, semicolon, lookalike, other_arrow, alone, equality, preprocessor, comment, bare_rule, foreign_word, decimals, strange_sign, setting, first_word, label, second_arrow, behind_arrow, brackets,
+CASES = [desk_line, semicolon, lookalike, other_arrow, alone, equality, preprocessor, comment, bare_rule, foreign_word, decimals, strange_sign,
+         setting, first_word, label, second_arrow, behind_arrow, brackets,
          pattern, empty_parens, axiom, number_due, nothing_more]
 
 

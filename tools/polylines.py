@@ -1,6 +1,7 @@
 """A DXF by ezdxf (in Debian: python3-ezdxf): of release 12, a polyline for each run, on the layer of its width.
 
-Where the Python of the tools has no ezdxf, another one that has it runs this file: runs come from standard input, and the DXF goes to standard output.
+Where the Python of the tools has no ezdxf, another one that has it runs this file: runs come from standard input, and the DXF goes to standard
+output.
 """
 
 from __future__ import annotations

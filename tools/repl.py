@@ -117,7 +117,8 @@ class Terminal:
     def completions(self, line: str, text: str) -> list[str]:
         """The words that may stand where a word begins with `text`, at the end of a line."""
         before = line[:len(line) - len(text)]
-        return [word + " " * (word in COMMANDS) for word in sorted(self.words_behind(before)) if word.startswith(text)] if text or before else COMMANDS
+        return [word + " " * (word in COMMANDS) for word in sorted(self.words_behind(before))
+                if word.startswith(text)] if text or before else COMMANDS
 
     def words_behind(self, before: str) -> Iterable[str]:
         words, known = before.split(), self.conversation.words()

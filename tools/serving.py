@@ -22,10 +22,12 @@ from watching import Watching
 
 WEB = os.path.join(os.path.dirname(os.path.realpath(__file__)), "web")
 CODEMIRROR = "/usr/share/javascript/codemirror"
-KINDS = {".html": "text/html; charset=utf-8", ".css": "text/css", ".js": "text/javascript; charset=utf-8", ".svg": "image/svg+xml", ".json": "application/json", ".md": "text/markdown; charset=utf-8"}
+KINDS = {".html": "text/html; charset=utf-8", ".css": "text/css", ".js": "text/javascript; charset=utf-8", ".svg": "image/svg+xml",
+         ".json": "application/json", ".md": "text/markdown; charset=utf-8"}
 EXPORTS = {"segments": "text/plain", **{kind: media for kind, (_, media) in formats.KINDS.items()}}
 # A page takes nothing from elsewhere, and is shown in no other one.
-POLICY = "default-src 'none'; script-src 'self'; style-src 'self'; img-src 'self' data: blob:; connect-src 'self'; base-uri 'none'; frame-ancestors 'none'; form-action 'none'"
+POLICY = ("default-src 'none'; script-src 'self'; style-src 'self'; img-src 'self' data: blob:; connect-src 'self'; base-uri 'none'; "
+          "frame-ancestors 'none'; form-action 'none'")
 # A script as JSON, in which a byte may be written by six signs.
 LONGEST_REQUEST = 6 * LONGEST_SCRIPT + 1000
 LONGEST_WAIT = 20
@@ -108,7 +110,8 @@ class Answer(http.server.BaseHTTPRequestHandler):
         with open(os.path.join(WEB, "look.html"), encoding="utf-8") as file:
             page = file.read()
         has_field = not self.is_plain and os.path.exists(os.path.join(CODEMIRROR, "lib", "codemirror.js"))
-        field = "<link rel=\"stylesheet\" href=\"/codemirror/lib/codemirror.css\">\n<script src=\"/codemirror/lib/codemirror.js\"></script>" if has_field else ""
+        field = ("<link rel=\"stylesheet\" href=\"/codemirror/lib/codemirror.css\">\n<script src=\"/codemirror/lib/codemirror.js\"></script>"
+                 if has_field else "")
         page = page.replace("{token}", self.guard.token).replace("{field}", field).replace("{version}", version())
         self.send(200, KINDS[".html"], page.encode(), more)
 

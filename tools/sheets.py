@@ -216,11 +216,13 @@ def sheet_svg(sheet: Sheet) -> Iterator[str]:
         if cell.has_picture():
             figure = figure_in(cell.reply, cell.lattice)
             box = box_of(figure, Wish(), PLANE[cell.lattice])
-            yield "<svg x=\"%d\" y=\"%d\" width=\"%d\" height=\"%d\" viewBox=\"%s\">" % (left, top, CELL, CELL, " ".join(number(value, PLACES) for value in box))
+            yield "<svg x=\"%d\" y=\"%d\" width=\"%d\" height=\"%d\" viewBox=\"%s\">" % (left, top, CELL, CELL,
+                                                                                         " ".join(number(value, PLACES) for value in box))
             yield "<g fill=\"none\" stroke=\"black\" stroke-linecap=\"round\" stroke-linejoin=\"round\">"
             yield from paths(figure)
             yield "</g>"
             yield "</svg>"
         for line, text in enumerate(cell.caption()):
-            yield "<text x=\"%d\" y=\"%d\" font-family=\"sans-serif\" font-size=\"11\">%s</text>" % (left, top + CELL + (line + 1) * LINE, escape(text[:60]))
+            yield "<text x=\"%d\" y=\"%d\" font-family=\"sans-serif\" font-size=\"11\">%s</text>" % (left, top + CELL + (line + 1) * LINE,
+                                                                                                     escape(text[:60]))
     yield "</svg>"

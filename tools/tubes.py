@@ -79,7 +79,8 @@ def in_a_row(vectors: Ring) -> tuple[float, ...]:
 
 
 # The corners of two triangles at each side of a tube between two rings: which of the rings, and which of its points.
-SIDE = [corner for side in range(SIDES) for after in [(side + 1) % SIDES] for corner in [(0, side), (0, after), (1, after), (0, side), (1, after), (1, side)]]
+SIDE = [corner for side in range(SIDES) for after in [(side + 1) % SIDES]
+        for corner in [(0, side), (0, after), (1, after), (0, side), (1, after), (1, side)]]
 
 
 class Mesh:

@@ -23,10 +23,12 @@ from figure import PLANE, Figure, Refused, box_of, figure_of, number, path_of
 from replies import caret_inside
 
 SCRIPT = "lsys-script"
-NO_PROGRAM = "The program lsys was not found in PATH nor beside this extension. Install it (the package of lsys has it), or name it on the page Program."
+NO_PROGRAM = ("The program lsys was not found in PATH nor beside this extension. Install it (the package of lsys has it), or name it on the page "
+              "Program.")
 # What a field of several lines holds in place of a line's end, where a line begins behind it. A \\n inside of a line is a roll and a module,
 # and so it is before an `at` without a number.
-COMMANDS = "axiom|production|drop|ignore|ignoring|consider|common|schedule|seed|depth|lattice|lineage|version|hom|string|segments|svg|show|bounds|at|growth|undo|redo|quit"
+COMMANDS = ("axiom|production|drop|ignore|ignoring|consider|common|schedule|seed|depth|lattice|lineage|version|"
+            "hom|string|segments|svg|show|bounds|at|growth|undo|redo|quit")
 LINE_END = re.compile(r"\\n(?=;|\\n|$|[ \t]*(?!at(?![ \t]+\d))(?:%s)(?![a-z]))" % COMMANDS)
 
 
@@ -61,7 +63,8 @@ class Draw(inkex.EffectExtension):
     def add_arguments(self, parser: Any) -> None:
         for name in ("tab", "file", "text", "program"):
             parser.add_argument("--" + name, default="")
-        for name, kind, usual in (("level", int, -1), ("step", float, 2.0), ("line", float, 0.2), ("tell", inkex.Boolean, False), ("limit", int, 100000)):
+        for name, kind, usual in (("level", int, -1), ("step", float, 2.0), ("line", float, 0.2), ("tell", inkex.Boolean, False),
+                                  ("limit", int, 100000)):
             parser.add_argument("--" + name, type=kind, default=usual)
 
     def effect(self) -> None:
