@@ -68,6 +68,12 @@ def typing(trial: Trial) -> None:
     browser.keys("Shift+Down", "Delete")
     trial.expect("a line that is gone is dropped", lambda page: page["sent"] == [["drop g", "ok 0/32"]] and page["how"] == "edited"
                  and len(page["replies"]) == 4)
+    typed_at_the_end(trial)
+
+
+def typed_at_the_end(trial: Trial) -> None:
+    """Lines behind the others, a query below the text, and a line that is saved at once."""
+    browser = trial.browser
     trial.caret_to(3, 10)
     browser.keys("Enter")
     browser.type("depth 3")

@@ -187,6 +187,12 @@ def sheets(trial: Trial) -> None:
         wrong += [place] * (body.split("\n", 1)[1] != alone(trial.program, lines) or told[place][1] != body.count("\n") - 2)
     trial.told("and equal to a single run", not wrong, wrong)
     trial.shot("sheet")
+    taken_from_a_sheet(trial)
+
+
+def taken_from_a_sheet(trial: Trial) -> None:
+    """A click takes a picture's values, and a sheet of too many pictures is refused."""
+    browser = trial.browser
     browser.click("#cells li:nth-child(6) button")
     trial.expect("a click takes its values into the script",
                  lambda page: "A(2)" in page["script"] and "depth 2" in page["script"] and not page["pending"])

@@ -66,6 +66,12 @@ def refusals(trial: Trial) -> None:
     expect(trial, "and the picture is of the lines before it", lambda told: told["drawn"] == "The picture is of lines 1 to 4.")
     browser.keys("Alt+Enter")
     expect(trial, "one key takes it", lambda told: "production f" in told["script"].split("\n")[4] and not told["meant"])
+    far_below(trial)
+
+
+def far_below(trial: Trial) -> None:
+    """A refused line that isn't seen, and a picture without lines."""
+    browser = trial.browser
     rest = "\n".join("; line %d" % number for number in range(3, 201))
     trial.begin("axiom F+F\nproduction f: F => F+F\n%s\ndeph 3\n" % rest)
     expect(trial, "a refused line far below is told in the status", lambda told: told["to_refused"].startswith("line 201 is refused: did you mean"))
@@ -275,47 +281,55 @@ def side_panel(trial: Trial) -> None:
 PIECES = ["bracketed plant", "context signal", "stochastic", "table schedule", "homomorphism"]
 
 
+# What is offered, and what stands in the script where a piece of it was put.
+COMPLETIONS = "return Array.from(document.querySelectorAll('#completions:not([hidden]) li'), each => each.textContent)"
+PUT = ["production left: F @ 1 => F[+F]F", "production right: F @ 1 => F[-F]F", "seed 1"]
+
+
 def completing(trial: Trial) -> None:
     """Ctrl+Space, with CodeMirror and without."""
     browser = trial.browser
-    shown = "return Array.from(document.querySelectorAll('#completions:not([hidden]) li'), each => each.textContent)"
     choices: tuple[list[str], ...] = ([], ["--plain"])
     for words in choices:
         trial.begin("version 2\naxiom AB_x\nproduction winter grow: A => B_x\nproduction stop: B_x => A\n\n", *words)
         expect(trial, "a script %s" % " ".join(words), lambda told: told["replies"] == 4)
         trial.caret_to(4, 0)
         browser.keys("Control+ ")
-        found = trial.seen(shown, bool)
+        found = trial.seen(COMPLETIONS, bool)
         trial.told("commands and pieces of scripts are offered",
                    "axiom command" in found and all(name + " piece of a script" in found for name in PIECES) and len(found) > 25, found)
         browser.type("dr")
-        found = trial.seen(shown, lambda found: len(found) < 2)
+        found = trial.seen(COMPLETIONS, lambda found: len(found) < 2)
         trial.told("what is typed narrows them", found == ["drop command"], found)
         trial.shot("completing%s" % "".join(words))
         browser.keys("Enter")
-        browser.keys("Control+ ")
-        found = trial.seen(shown, bool)
-        trial.told("labels behind drop", found == ["grow label", "stop label"], found)
-        browser.keys("Down", "Tab")
-        expect(trial, "Tab takes one", lambda told: told["script"].split("\n")[4] == "drop stop")
-        browser.run("lookPage.put([...lookPage.lines().slice(0, 4), 'schedule '], ''); lookPage.field.goTo(4, 9)")
-        browser.keys("Control+ ")
-        trial.told("tables behind schedule", trial.seen(shown, bool) == ["main table", "winter table"], browser.run(shown))
-        browser.keys("Escape")
-        browser.run("lookPage.put([...lookPage.lines().slice(0, 4), 'axiom A'], ''); lookPage.field.goTo(4, 7)")
-        browser.keys("Control+ ")
-        found = trial.seen(shown, bool)
-        trial.told("names behind axiom", found == ["A name"], found)
-        browser.keys("Escape")
-        trial.told("Escape closes the list", browser.run(shown) == [], browser.run(shown))
+        completed_names(trial)
         browser.run("lookPage.put([...lookPage.lines().slice(0, 4), 'stoch'], ''); lookPage.field.goTo(4, 5)")
         browser.keys("Control+ ")
-        trial.seen(shown, bool)
+        trial.seen(COMPLETIONS, bool)
         browser.keys("Enter")
-        expect(trial, "a piece of a script is put", lambda told: told["script"].split("\n")[4:] == ["production left: F @ 1 => F[+F]F",
-                                                                                                    "production right: F @ 1 => F[-F]F", "seed 1"]
-               and told["replies"] == 7)
+        expect(trial, "a piece of a script is put", lambda told: told["script"].split("\n")[4:] == PUT and told["replies"] == 7)
         trial.is_quiet()
+
+
+def completed_names(trial: Trial) -> None:
+    """Labels, tables and names, behind the words that they belong to."""
+    browser = trial.browser
+    browser.keys("Control+ ")
+    found = trial.seen(COMPLETIONS, bool)
+    trial.told("labels behind drop", found == ["grow label", "stop label"], found)
+    browser.keys("Down", "Tab")
+    expect(trial, "Tab takes one", lambda told: told["script"].split("\n")[4] == "drop stop")
+    browser.run("lookPage.put([...lookPage.lines().slice(0, 4), 'schedule '], ''); lookPage.field.goTo(4, 9)")
+    browser.keys("Control+ ")
+    trial.told("tables behind schedule", trial.seen(COMPLETIONS, bool) == ["main table", "winter table"], browser.run(COMPLETIONS))
+    browser.keys("Escape")
+    browser.run("lookPage.put([...lookPage.lines().slice(0, 4), 'axiom A'], ''); lookPage.field.goTo(4, 7)")
+    browser.keys("Control+ ")
+    found = trial.seen(COMPLETIONS, bool)
+    trial.told("names behind axiom", found == ["A name"], found)
+    browser.keys("Escape")
+    trial.told("Escape closes the list", browser.run(COMPLETIONS) == [], browser.run(COMPLETIONS))
 
 
 def beginnings(trial: Trial) -> None:
