@@ -14,7 +14,7 @@ def walk(trial: Trial) -> None:
     trial.begin(None)
     trial.expect("without a script the gallery is open", lambda page: page["gallery"])
     place = trial.at_rest("[data-name=koch_island]")
-    trial.told("the first example is seen without scrolling", 0 <= place[0] and place[1] <= place[2], place)
+    trial.told("the first example is seen without scrolling", place[0] >= 0 and place[1] <= place[2], place)
     trial.shot("gallery")
     browser.click("[data-name=koch_island]")
     trial.expect("the island has 256 lines", lambda page: page["lines"] == 256 and not page["gallery"] and "256 lines" in page["told"])
@@ -294,7 +294,7 @@ def widths(trial: Trial) -> None:
             browser.click("#open_gallery")
             trial.seen("return document.querySelector('[data-name=koch_island]')")
             place = trial.at_rest("[data-name=koch_island]")
-            trial.told("the gallery's first example is seen at %d columns" % width, 0 <= place[0] and place[1] <= place[2], place)
+            trial.told("the gallery's first example is seen at %d columns" % width, place[0] >= 0 and place[1] <= place[2], place)
             trial.shot("gallery_%d" % width)
     finally:
         browser.tell("Emulation.clearDeviceMetricsOverride", {})

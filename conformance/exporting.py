@@ -11,6 +11,7 @@ import tempfile
 import time
 import xml.etree.ElementTree
 import zlib
+from collections.abc import Callable
 from typing import Any
 
 from trial import Trial
@@ -127,8 +128,7 @@ def png(trial: Trial) -> None:
         trial.expect("the island is drawn", lambda page: page["lines"] == 256)
         found = png_of(fetched(trial, "png", "island.png"))
         trial.told("a PNG of 2400 points, its ground transparent", found and max(found[0]) == 2400 and found[1] == (0, 0, 0, 0), found)
-        trial.expect("which the browser draws where there is no rsvg-convert, and that is told",
-                     lambda page: ("browser drew" in page["notice"]) == is_bare)
+        trial.expect("which the browser draws where there is no rsvg-convert, and that is told", told_by_the_browser(is_bare))
         browser.click("#export summary")
         browser.run("document.getElementById('png_size').value = 300")
         browser.click("#png_clear")
@@ -139,6 +139,11 @@ def png(trial: Trial) -> None:
     browser.click("#export_pdf")
     trial.expect("a PDF is none then, and that is told", lambda page: "PDF is written by rsvg-convert, which isn't installed" in page["notice"])
     trial.is_quiet()
+
+
+def told_by_the_browser(is_bare: bool) -> Callable[[Any], bool]:
+    """Whether the page tells that the browser drew a PNG, as it has to where nothing else can."""
+    return lambda page: ("browser drew" in page["notice"]) == is_bare
 
 
 def bare_path() -> str:

@@ -23,7 +23,7 @@ from formats import python_with
 
 # A point, and a run: its width and its points.
 Point = tuple[float, ...]
-Run = tuple[float, "list[Point]"]
+Run = tuple[float, list[Point]]
 NAMESPACE = "{http://www.w3.org/2000/svg}"
 INKEX = "/usr/share/inkscape/extensions"
 NUMBER = re.compile(r"[-+]?[0-9.]+(?:e[-+]?\d+)?")
@@ -130,7 +130,7 @@ def svg_by_inkscape(paths: Sequence[str]) -> list[list[Run]]:
 def run_by(python: str | None, script: str, paths: Sequence[str]) -> list[str]:
     """What a script prints of files, a line for each."""
     environment = {**os.environ, "PYTHONPATH": INKEX, "PYTHONDONTWRITEBYTECODE": "1"}
-    ran = subprocess.run([python or sys.executable, "-c", script, *paths], stdout=subprocess.PIPE, stderr=subprocess.PIPE, env=environment, text=True)
+    ran = subprocess.run([python or sys.executable, "-c", script, *paths], capture_output=True, env=environment, text=True)
     if ran.returncode:
         raise RuntimeError(ran.stderr.strip().split("\n")[-1])
     return ran.stdout.splitlines()

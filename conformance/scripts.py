@@ -5,7 +5,7 @@ from __future__ import annotations
 import random
 from collections.abc import Callable, Iterator, Sequence
 
-Tokens = Callable[[], "list[str]"]
+Tokens = Callable[[], list[str]]
 LETTERS = ["A", "B", "C", "F", "G", "X", "f", "a", "F_a", "F_b", "f_1", "B_z9", "F_abcdef", "A_00"]
 MARKS = ["+", "-", "&", "^", "\\", "/", "|", "!"]
 FORMALS = ["x", "y", "z", "n", "A", "F", "x_1", "k_abcdef", "u", "v", "w", "i", "j", "m", "p", "q"]

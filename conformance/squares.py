@@ -8,7 +8,7 @@ import shutil
 import subprocess
 
 # The lines of a script, its last line, and how many symbols its levels have.
-Script = tuple["list[bytes]", bytes, int]
+Script = tuple[list[bytes], bytes, int]
 # What a symbol of the larger script may cost, in what it costs in the smaller one. A square would have 2, or nearly.
 MOST_GROWTH = 1.2
 

@@ -4,7 +4,8 @@ usage: tools/check [--jobs N] [NAME ..]
 
 It builds the fast program without proofs where that is needed, and then runs the tests of each crate that has some, unproved, and the
 checks of conformance/ that need nothing installed, with 300 random scripts among them, and conformance/look, which needs a browser and
-says so where there is none. NAMEs take those whose name holds one of them.
+says so where there is none. Besides, it runs the unit tests of the tools, tools/house, and tools/lint, which leaves out what isn't installed
+of ruff, mypy, shellcheck and node, and says so. NAMEs take those whose name holds one of them, as `tools` or `unit`, which need no program.
 What a failing one says is shown. Unproved tests run unoptimized: one that takes more than 20 seconds so is counted as too slow, and is
 left to the gate, `make gate`, which proves everything.
 """
@@ -15,9 +16,11 @@ import os
 import re
 import shutil
 import subprocess
+import sys
 import time
 from collections.abc import Iterator
 from concurrent.futures import ThreadPoolExecutor, as_completed
+from typing import NamedTuple
 
 from building import NO_TOOLCHAIN
 from programs import TOP, fresh_program
@@ -29,6 +32,13 @@ SECONDS = 20
 SELDOM = 30
 RESULT = re.compile(r"^test result: \w+\. (\d+) passed; (\d+) failed", re.M)
 TOO_SLOW = "checked: no-answer: the program did not end within the time limit"
+
+
+class Job(NamedTuple):
+    """A test: its name, its words, and the folder in which it runs."""
+    name: str
+    words: list[str]
+    folder: str = TOP
 
 
 def crates_with_tests() -> Iterator[str]:
@@ -44,14 +54,32 @@ def text_of(path: str) -> str:
         return file.read()
 
 
-def jobs_for(program: str) -> list[tuple[str, list[str], str]]:
-    """Each test's name, its words and its folder, those that take longest first."""
-    tests = [("tests of " + name, ["rt", "try", "--test", "--seconds", str(SECONDS)], os.path.join(TOP, "crates", name))
-             for name in crates_with_tests()]
-    checks = [("conformance/" + check, [os.path.join(TOP, "conformance", check.split()[0]), *check.split()[1:], "--program", program], TOP)
-              for check in CHECKS]
-    return sorted(tests, key=lambda test: "program" not in test[0]) + checks + [("tools/" + tool, [os.path.join(TOP, "tools", tool)], TOP)
-                                                                                for tool in ("unused", "proved")]
+def crate_jobs() -> list[Job]:
+    """The tests of the crates, those that take longest first."""
+    words = ["rt", "try", "--test", "--seconds", str(SECONDS)]
+    jobs = [Job("tests of " + name, words, os.path.join(TOP, "crates", name)) for name in crates_with_tests()]
+    return sorted(jobs, key=lambda job: "program" not in job.name)
+
+
+def program_jobs() -> list[Job]:
+    """The checks of the program, which is named behind their words."""
+    return [Job("conformance/" + check, [os.path.join(TOP, "conformance", check.split()[0]), *check.split()[1:], "--program"]) for check in CHECKS]
+
+
+def tool_jobs() -> list[Job]:
+    """The checks of the repository itself, which need no toolchain."""
+    unit = Job("unit tests of tools", [sys.executable, "-B", "-m", "unittest", "discover", "-q", "-s", "tools/tests", "-t", "tools"])
+    return [unit] + [Job("tools/" + tool, [os.path.join(TOP, "tools", tool)]) for tool in ("unused", "proved", "house", "lint")]
+
+
+def chosen_jobs(names: list[str]) -> list[Job]:
+    """The jobs of these names, or all. The program is built where one of them needs it."""
+    crates, checks, tools = ([job for job in jobs if not names or any(name in job.name for name in names)]
+                             for jobs in (crate_jobs(), program_jobs(), tool_jobs()))
+    if (crates or checks) and not shutil.which("rt"):
+        give_up(NO_TOOLCHAIN, 127)
+    program = fresh_program() if checks else ""
+    return crates + [job._replace(words=[*job.words, program]) for job in checks] + tools
 
 
 def result_of_tests(said: str) -> tuple[bool, str]:
@@ -65,6 +93,7 @@ def result_of_tests(said: str) -> tuple[bool, str]:
 
 
 def run(name: str, words: list[str], folder: str) -> tuple[str, bool, float, str]:
+    """The name of a job, whether all is well, its seconds, and what it says."""
     begun = time.time()
     ran = subprocess.run(words, cwd=folder, stdin=subprocess.DEVNULL, stdout=subprocess.PIPE, stderr=subprocess.STDOUT, text=True, errors="replace")
     if words[0] == "rt":
@@ -80,11 +109,8 @@ def main() -> int:
     parser.add_argument("names", nargs="*")
     parser.add_argument("--jobs", type=int, default=max(1, (os.cpu_count() or 1) // 2))
     options = parser.parse_args()
-    if not shutil.which("rt"):
-        give_up(NO_TOOLCHAIN, 127)
-    program, begun, failed = fresh_program(), time.time(), 0
-    jobs = [job for job in jobs_for(program) if not options.names or any(name in job[0] for name in options.names)]
-    left = {name for name, _, _ in jobs}
+    jobs, failed = chosen_jobs(options.names), 0
+    left, begun = {job.name for job in jobs}, time.time()
     with Passing("%d to do" % len(left), SELDOM) as passing, ThreadPoolExecutor(options.jobs) as pool:
         for done in as_completed([pool.submit(run, *job) for job in jobs]):
             name, is_well, seconds, said = done.result()

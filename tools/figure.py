@@ -14,9 +14,9 @@ from replies import Caret, Lines, caret_below, commands_of, refusal, reply_from
 
 # A place of a lattice, what puts one into the plane or into space, a run so put, and what a refusal of a line means behind the edits before.
 Place = tuple[int, int, int]
-Put = Callable[[float, float, float], "tuple[float, ...]"]
-Drawn = tuple[int, "list[tuple[float, ...]]"]
-Meaning = Callable[[bytes, bytes, "list[bytes]"], str]
+Put = Callable[[float, float, float], tuple[float, ...]]
+Drawn = tuple[int, list[tuple[float, ...]]]
+Meaning = Callable[[bytes, bytes, list[bytes]], str]
 # Lines that only print, and are left out where only the figure is wanted.
 QUERIES = (b"string", b"segments", b"svg", b"show", b"bounds")
 NUMBERED = (b"string", b"at", b"growth")
@@ -152,7 +152,7 @@ def figure_of(program: str, script: bytes, level: int | None = None, words: Sequ
     """The figure that a program draws of a script, at another level than the script's where one is given. Raises Refused where a line
     is refused or there is no picture."""
     sent, commands = asked(script, level)
-    ran = subprocess.run([program] + list(words), input=sent, stdout=subprocess.PIPE, stderr=subprocess.PIPE)
+    ran = subprocess.run([program] + list(words), input=sent, capture_output=True)
     lines = iter(ran.stdout.splitlines(True))
 
     def next_line() -> bytes:

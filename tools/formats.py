@@ -21,7 +21,7 @@ from figure import SPACE, Figure, Put, bounds_of, number, path_of, plane_of
 
 Box = tuple[float, float, float, float]
 # Runs as a DXF is made of them: each a width and its points.
-Runs = list[tuple[int, "list[list[float]]"]]
+Runs = list[tuple[int, list[list[float]]]]
 HERE = os.path.dirname(os.path.realpath(__file__))
 PYTHON_OF_DEBIAN = "/usr/bin/python3"
 NO_RSVG = "%s is written by rsvg-convert, which isn't installed (in Debian: librsvg2-bin)"
@@ -58,6 +58,9 @@ class Wish(NamedTuple):
     ground: str = "none"
     title: str = ""
     script: str = ""
+
+
+USUAL = Wish()
 
 
 class Written(NamedTuple):
@@ -130,7 +133,7 @@ def svg_lines(figure: Figure, wish: Wish, box: Box, thinnest: float = 0) -> Iter
     yield "</svg>"
 
 
-def paths(figure: Figure, wish: Wish = Wish(), thinnest: float = 0) -> Iterator[str]:
+def paths(figure: Figure, wish: Wish = USUAL, thinnest: float = 0) -> Iterator[str]:
     """The paths of a drawing, one for each run, none of them thinner than that."""
     step = wish.step or 10
     for width, points in figure.drawn(plane_of(figure.lattice, wish.turn, wish.tilt)):
@@ -167,7 +170,7 @@ def run_rsvg(kind: str, drawn: bytes, words: Sequence[str]) -> bytes:
     """What rsvg-convert makes of an SVG."""
     name, environment = kind.upper(), {"SOURCE_DATE_EPOCH": "0", **os.environ}
     try:
-        ran = subprocess.run(["rsvg-convert", "--unlimited", "--format=" + kind, *words], input=drawn, stdout=subprocess.PIPE, stderr=subprocess.PIPE,
+        ran = subprocess.run(["rsvg-convert", "--unlimited", "--format=" + kind, *words], input=drawn, capture_output=True,
                              env=environment, timeout=LONGEST_RUN)
     except FileNotFoundError:
         raise MissingProgram(NO_RSVG % name) from None
@@ -209,8 +212,7 @@ def dxf_by_another(python: str | None, is_flat: bool, runs: Runs) -> Written:
     """The DXF that another Python makes, where there is one that has ezdxf."""
     if python is None:
         return Written(text_of(dxf_lines(runs)), NO_EZDXF)
-    ran = subprocess.run([python, os.path.join(HERE, "polylines.py")], input=json.dumps([is_flat, runs]).encode(), stdout=subprocess.PIPE,
-                         stderr=subprocess.PIPE)
+    ran = subprocess.run([python, os.path.join(HERE, "polylines.py")], input=json.dumps([is_flat, runs]).encode(), capture_output=True)
     if ran.returncode:
         raise Unfit("ezdxf makes no DXF of it: %s" % ran.stderr.decode(errors="replace").strip().split("\n")[-1])
     return Written(ran.stdout)
@@ -227,7 +229,7 @@ def dxf_lines(runs: Runs) -> Iterator[str]:
     yield from ("0", "ENDSEC", "0", "EOF")
 
 
-@functools.lru_cache(None)
+@functools.cache
 def python_with(module: str) -> str | None:
     """A Python that has a module of Debian's, which the one that runs this may lack; or None."""
     asked = "import importlib.util, sys; sys.exit(importlib.util.find_spec('%s') is None)" % module

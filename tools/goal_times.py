@@ -88,7 +88,7 @@ class Trial:
         goals = re.findall(r"^pub (\S+) :\s+(goal\.\S+)\n\S+((?: \S+)*) = \?", "\n".join(lines), re.M)
         below, names = os.path.join(self.copy, "proofs", path, "Answers"), []
         os.makedirs(below, exist_ok=True)
-        for goal, kind, arguments in goals[:1]:
+        for _, kind, _ in goals[:1]:
             names.append(self.write(below, "Z%dBase" % len(self.tries), head + need + "\npub base : %s → %s\nbase x = x\n" % (kind, kind)))
         for goal, kind, arguments in goals:
             self.goals[path, goal] = kind, arguments

@@ -72,7 +72,7 @@ class Guard:
 
     def has_cookie(self, line: str | None) -> bool:
         try:
-            cookies: http.cookies.SimpleCookie[str] = http.cookies.SimpleCookie(line or "")
+            cookies: Any = http.cookies.SimpleCookie(line or "")
             found = cookies.get(self.name())
         except http.cookies.CookieError:
             return False

@@ -19,7 +19,6 @@ import sys
 
 from bounds import Finding, all_findings, compared, used_once
 from sources import clauses_in, crates, defined, lines_of, texts
-from telling import say
 
 OPTIONS = {"--long", "--twice", "--once"}
 # The crates that hold definitions and laws alone.
@@ -78,6 +77,5 @@ def main() -> int:
     wrong = list(compared(findings))
     for line in wrong:
         print(line)
-    if wrong:
-        say("%d bounds are passed" % len(wrong))
+    print("%d bounds are passed" % len(wrong) if wrong else "no bound is passed, but for what is known")
     return 1 if wrong else 0

@@ -53,7 +53,7 @@ def rule_of(line: str) -> Rule | None:
 
 
 # The rules by their labels, and the lines of single settings by their words.
-System = tuple["dict[str, Rule]", "dict[str, str]"]
+System = tuple[dict[str, Rule], dict[str, str]]
 
 
 class Known:

@@ -151,7 +151,7 @@ def of_expression(kinds: set[str]) -> list[str]:
     """What may follow within an expression."""
     if "Number" in kinds:
         return ["a whole number", "a parameter's name", "`(`", "`-`", "`!`"]
-    if kinds == {"Ampersand"} or kinds == {"Bar"}:
+    if kinds in ({"Ampersand"}, {"Bar"}):
         return ["a second `%s`" % SIGNS[next(iter(kinds))]]
     ends = [meant for kind, meant in MEANT if kind in kinds & {"At", "Arrow", "Comma", "RightParen"}]
     return ["an operator, as `+` or `<`"] + ends

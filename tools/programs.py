@@ -127,7 +127,7 @@ def checked(program: str, words: Sequence[str] = ()) -> str:
     """The path of a program that a person named, with these words. Ends this process where it doesn't answer as `lsys` does."""
     named = os.path.abspath(program)
     try:
-        ran = subprocess.run([named] + list(words), input=b"depth 0\n", stdout=subprocess.PIPE, stderr=subprocess.PIPE, timeout=60)
+        ran = subprocess.run([named] + list(words), input=b"depth 0\n", capture_output=True, timeout=60)
     except (OSError, subprocess.TimeoutExpired) as error:
         give_up("no program can be run at %s: %s" % (program, getattr(error, "strerror", None) or "it doesn't end"))
     if ran.stdout != b"ok 0/0\n":

@@ -32,6 +32,7 @@ from session import Ended, Program, is_query
 from telling import Words, give_up, say
 from texts import read_script
 
+USAGE = __doc__ or ""
 COMMANDS = WORDS
 OWN = [":picture", ":save", ":open", ":limit", ":help", ":quit"]
 BEGIN = "a line begins with its command, as in  axiom F-F-F-F ; Tab completes it, :help lists more, and quit or Ctrl-D ends"
@@ -170,7 +171,7 @@ class Terminal:
                 self.conversation.limit = int(rest)
                 self.conversation.take(b"\n".join(self.conversation.taken))
             else:
-                print(__doc__[__doc__.index("    :picture"):__doc__.index("Where input")].rstrip())
+                print(USAGE[USAGE.index("    :picture"):USAGE.index("Where input")].rstrip())
         except OSError as error:
             say("%s: %s" % (rest, error.strerror))
 

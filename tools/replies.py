@@ -6,7 +6,7 @@ import re
 from collections.abc import Callable, Iterator
 from typing import Optional
 
-Caret = Callable[[bytes, Optional[int]], "list[str]"]
+Caret = Callable[[bytes, Optional[int]], list[str]]
 LONGEST_LINE = 65536
 # The replies that name a column, and hold it as their last word.
 AT_COLUMN = re.compile(rb"refused (?:syntax (?:byte|token|deep)|name|duplicate|mixed|label|table|level|many|place) (\d+)$")

@@ -59,7 +59,8 @@ def give_up(text: str, status: int = 1) -> NoReturn:
 class Words(argparse.ArgumentParser):
     """The words of a tool. Its usage is the tool's own description, and a wrong word is told in a line."""
 
-    def __init__(self, description: str) -> None:
+    def __init__(self, description: str | None) -> None:
+        description = description or ""
         argparse.ArgumentParser.__init__(self, usage=description.replace("%", "%%"), add_help=False)
         self.description_of_tool = description
         self.add_argument("-h", "--help", action="store_true")
