@@ -1,4 +1,5 @@
-// A beside B: a version that is held, and the script as it goes on, with what differs in the text and, where both have one lattice, which
+// A beside B: a version that is held, and the script as it goes on, with what differs in the text and, where both have
+// one lattice, which
 // segments came and went. A segment is the same one whichever end it begins at.
 
 import { Picture } from "/web/picture.js";
@@ -15,9 +16,11 @@ const AROUND = 2;
 function keysOf({ places, count }) {
     const keys = new Array(count);
     for (let at = 0, from = 0; at < count; at++, from += 7) {
-        const order = places[from] - places[from + 3] || places[from + 1] - places[from + 4] || places[from + 2] - places[from + 5];
+        const order = places[from] - places[from + 3] || places[from + 1] - places[from + 4]
+            || places[from + 2] - places[from + 5];
         const first = order > 0 ? from + 3 : from, second = order > 0 ? from : from + 3;
-        keys[at] = places[first] + " " + places[first + 1] + " " + places[first + 2] + " " + places[second] + " " + places[second + 1] + " " + places[second + 2] + " " + places[from + 6];
+        keys[at] = places[first] + " " + places[first + 1] + " " + places[first + 2] + " " + places[second] + " "
+            + places[second + 1] + " " + places[second + 2] + " " + places[from + 6];
     }
     return keys;
 }
@@ -43,8 +46,10 @@ function only(data, numbers) {
 
 // The lines that differ and some around them, from the server's [sign, number before, number now, line].
 function shown(told) {
-    const near = told.map((_, place) => told.slice(Math.max(0, place - AROUND), place + AROUND + 1).some(([sign]) => sign !== " "));
-    return told.flatMap(([sign, before, now, line], place) => near[place] ? [sign + " " + String(now || before).padStart(4) + "  " + line] : near[place - 1] ? ["  .."] : []);
+    const near = told.map((_, place) => told.slice(Math.max(0, place - AROUND), place + AROUND + 1)
+        .some(([sign]) => sign !== " "));
+    return told.flatMap(([sign, before, now, line], place) => near[place]
+        ? [sign + " " + String(now || before).padStart(4) + "  " + line] : near[place - 1] ? ["  .."] : []);
 }
 
 export class Beside {
@@ -63,7 +68,8 @@ export class Beside {
         this.compared = this.text = null;
         at("frame").classList.add("beside");
         at("held").hidden = false;
-        at("held").setAttribute("aria-label", "A, as it was held: " + numeral(picture.data.count) + " lines, level " + picture.data.level);
+        at("held").setAttribute("aria-label", "A, as it was held: " + numeral(picture.data.count) + " lines, level "
+            + picture.data.level);
         this.picture = this.picture || new Picture(at("held"), () => {});
         Object.assign(this.picture, { data: picture.data, points: null, marked: [] });
         picture.beside = picture.data;
@@ -96,8 +102,12 @@ export class Beside {
         this.compared = data;
         picture.marked = this.picture.marked = [];
         Object.assign(this.picture, { follows: data.lattice === a.lattice ? picture : null });
-        if (data.lattice !== a.lattice) at("beside_told").textContent = "A is on the " + a.lattice + " lattice and B on the " + data.lattice + " one, so their lines are not compared.";
-        else if (data.count > MOST_COMPARED || a.count > MOST_COMPARED) at("beside_told").textContent = "Pictures of more than " + numeral(MOST_COMPARED) + " lines are not compared.";
+        if (data.lattice !== a.lattice)
+            at("beside_told").textContent = "A is on the " + a.lattice + " lattice and B on the " + data.lattice
+                + " one, so their lines are not compared.";
+        else if (data.count > MOST_COMPARED || a.count > MOST_COMPARED)
+            at("beside_told").textContent = "Pictures of more than " + numeral(MOST_COMPARED)
+                + " lines are not compared.";
         else this.compare(picture, data, a);
         this.picture.draw();
         picture.draw();
@@ -107,7 +117,8 @@ export class Beside {
         const [before, now] = [keysOf(a), keysOf(data)], went = beyond(before, now), came = beyond(now, before);
         picture.marked = [{ data: only(data, came), colour: "--label", wide: 2 }];
         this.picture.marked = [{ data: only(a, went), colour: "--refused", wide: 2 }];
-        at("beside_told").textContent = numeral(went.length) + (went.length === 1 ? " line" : " lines") + " of A went (red), " + numeral(came.length) + " came (green), "
+        at("beside_told").textContent = numeral(went.length) + (went.length === 1 ? " line" : " lines")
+            + " of A went (red), " + numeral(came.length) + " came (green), "
             + numeral(data.count - came.length) + " stayed.";
         Object.assign(at("beside_told").dataset, { went: went.length, came: came.length });
     }

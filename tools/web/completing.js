@@ -1,4 +1,5 @@
-// What may stand where the cursor is: commands, labels, tables, names, and pieces of scripts, in a list that keys choose from.
+// What may stand where the cursor is: commands, labels, tables, names, and pieces of scripts, in a list that keys
+// choose from.
 
 import { COMMANDS, wordOf } from "/web/language.js";
 import { SNIPPETS } from "/web/starting.js";
@@ -29,7 +30,8 @@ export function choicesAt(lines, line, column) {
     const as = (kind, words) => words.map(text => ({ text, kind, name: text }));
     let all;
     if (front.trim() === "") {
-        all = [...as("command", COMMANDS).map(each => ({ ...each, text: each.text + " " })), ...SNIPPETS.map(({ name, text }) => ({ name, text, kind: "piece of a script" }))];
+        all = [...as("command", COMMANDS).map(each => ({ ...each, text: each.text + " " })),
+            ...SNIPPETS.map(({ name, text }) => ({ name, text, kind: "piece of a script" }))];
     } else if (SETTINGS[word]) {
         all = as("setting", SETTINGS[word]);
     } else if (word === "drop") {
@@ -41,7 +43,8 @@ export function choicesAt(lines, line, column) {
     } else {
         all = as("name", known.names);
     }
-    const found = all.filter(each => each.name.startsWith(prefix) || each.kind === "piece of a script" && each.name.includes(prefix));
+    const found = all.filter(each => each.name.startsWith(prefix) || each.kind === "piece of a script"
+        && each.name.includes(prefix));
     return { from: column - prefix.length, choices: found.slice(0, MOST) };
 }
 
@@ -77,13 +80,16 @@ export class Completion {
         });
         at("completions").replaceChildren(...items);
         at("completions").hidden = false;
-        at("completions").style.left = Math.max(4, Math.min(box.left, globalThis.innerWidth - at("completions").offsetWidth - 8)) + "px";
-        at("completions").style.top = Math.max(4, Math.min(box.bottom + 2, globalThis.innerHeight - at("completions").offsetHeight - 8)) + "px";
+        at("completions").style.left = Math.max(4, Math.min(box.left,
+            globalThis.innerWidth - at("completions").offsetWidth - 8)) + "px";
+        at("completions").style.top = Math.max(4, Math.min(box.bottom + 2,
+            globalThis.innerHeight - at("completions").offsetHeight - 8)) + "px";
         return this.tell();
     }
 
     tell() {
-        for (const [number, item] of [...at("completions").children].entries()) item.setAttribute("aria-selected", String(number === this.chosen));
+        for (const [number, item] of [...at("completions").children].entries())
+            item.setAttribute("aria-selected", String(number === this.chosen));
         const item = at("completions").children[this.chosen];
         if (item) item.scrollIntoView({ block: "nearest" });
         at("completion_told").textContent = item ? item.textContent : "";
@@ -105,11 +111,13 @@ export class Completion {
     key(event) {
         if (!this.isOpen()) return;
         const count = this.shown.choices.length;
-        const deeds = { ArrowDown: () => { this.chosen = (this.chosen + 1) % count; this.tell(); }, ArrowUp: () => { this.chosen = (this.chosen + count - 1) % count; this.tell(); },
+        const deeds = { ArrowDown: () => { this.chosen = (this.chosen + 1) % count; this.tell(); },
+            ArrowUp: () => { this.chosen = (this.chosen + count - 1) % count; this.tell(); },
             Enter: () => this.choose(this.chosen), Tab: () => this.choose(this.chosen), Escape: () => this.close() };
         if (!deeds[event.key]) {
             // What is typed narrows the list, once it is in the text.
-            if (event.key.length === 1 && !event.ctrlKey || event.key === "Backspace") setTimeout(() => this.isOpen() && this.open());
+            if (event.key.length === 1 && !event.ctrlKey || event.key === "Backspace")
+                setTimeout(() => this.isOpen() && this.open());
             else if (!["Shift", "Control"].includes(event.key)) this.close();
             return;
         }

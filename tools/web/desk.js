@@ -1,4 +1,5 @@
-// The server that the page works with: what it tells, and the changes that it is sent, one at a time and only the newest.
+// The server that the page works with: what it tells, and the changes that it is sent, one at a time and only the
+// newest.
 
 const token = globalThis.document.querySelector("meta[name=token]").content;
 
@@ -23,7 +24,8 @@ async function answerOf(answer) {
 // What each control tells where the server can't be reached.
 export const GONE = "tools/look has ended or can't be reached. This page's text is still here, and Export has it as a file.";
 
-// What is on its way and takes long: `Busy.onLong` is told of it after half a second, with what the server works at, and again until it ends.
+// What is on its way and takes long: `Busy.onLong` is told of it after half a second, with what the server works at,
+// and again until it ends.
 export const Busy = { onLong: () => {}, count: 0, timer: null };
 const AFTER = 500, AGAIN = 300;
 
@@ -43,7 +45,8 @@ async function reach(path, options, isWatched) {
     if (isWatched && Busy.count++ === 0) Busy.timer = setTimeout(tellLong, AFTER);
     try {
         const answer = await fetch(path, options);
-        return isWatched ? new Response(await answer.blob(), { status: answer.status, headers: answer.headers }) : answer;
+        return isWatched ? new Response(await answer.blob(), { status: answer.status, headers: answer.headers })
+            : answer;
     } catch (error) {
         throw new Wrong(GONE, 0);
     } finally {
@@ -60,7 +63,8 @@ export async function get(path, isWatched = true) {
 
 export async function post(path, body, isWatched = true) {
     const headers = { "X-Token": token, "Content-Type": "application/json" };
-    return (await answerOf(await reach(path, { method: "POST", headers, body: JSON.stringify(body) }, isWatched))).json();
+    return (await answerOf(await reach(path, { method: "POST", headers, body: JSON.stringify(body) }, isWatched)))
+        .json();
 }
 
 // The lines that differ: where they begin, how many go, and what comes.
@@ -74,7 +78,8 @@ export function difference(before, after) {
 }
 
 export class Desk {
-    // `onState` gets each new state; `onScript` the text where another page, the file or a person's choice changed it; `onClash` is told where
+    // `onState` gets each new state; `onScript` the text where another page, the file or a person's choice changed it;
+    // `onClash` is told where
     // two pages changed one text; `onGone` whether the server can't be
     // reached, `onNewDesk` that another one is there in its place.
     constructor(handlers) {
@@ -91,7 +96,8 @@ export class Desk {
         for (;;) {
             try {
                 // The first state comes as soon as the script is answered; later ones come when there is something new.
-                const state = await (await get("/state?turn=" + this.turn + "&text=" + this.number, this.number < 0)).json();
+                const state = await (await get("/state?turn=" + this.turn + "&text=" + this.number, this.number < 0))
+                    .json();
                 this.desk = this.desk || state.desk;
                 if (state.desk !== this.desk) {
                     this.onNewDesk();
@@ -144,7 +150,8 @@ export class Desk {
 
     // Waits, for some seconds at most, until all that was wanted has been sent.
     async settled() {
-        for (let turns = 0; turns < 200 && (this.isSending || this.wanted) && !this.clash; turns++) await new Promise(done => setTimeout(done, 25));
+        for (let turns = 0; turns < 200 && (this.isSending || this.wanted) && !this.clash; turns++)
+            await new Promise(done => setTimeout(done, 25));
     }
 
     async send() {

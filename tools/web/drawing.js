@@ -1,8 +1,10 @@
-// How segments are drawn: where a place of a lattice is on a sheet, and the strokes. Nothing is imported here, since a worker and a file that
+// How segments are drawn: where a place of a lattice is on a sheet, and the strokes. Nothing is imported here, since a
+// worker and a file that
 // holds all of its pictures draw by it too.
 
 const FLAT = { square: [10, 0, 0, 0, -10, 0], hexagonal: [20, 10, 0, 0, -17, 0] };
-// The view in space that the program's own picture has, from above a corner: a length of 17 sideways, of 10 down, and of 20 up.
+// The view in space that the program's own picture has, from above a corner: a length of 17 sideways, of 10 down, and
+// of 20 up.
 export const CORNER = { spin: 0, turn: Math.PI / 4, tilt: Math.asin(10 / 17) };
 const SPACE = 17 * Math.SQRT2;
 export const MARGIN = 10;
@@ -45,7 +47,8 @@ export function place(data, view) {
     const points = new Float64Array(4 * count);
     let left = 0, top = 0, right = 0, bottom = 0;
     for (let at = 0, from = 0, to = 0; at < 2 * count; at++, from += at & 1 ? 3 : 4, to += 2) {
-        const x = a * places[from] + b * places[from + 1] + c * places[from + 2], y = d * places[from] + e * places[from + 1] + f * places[from + 2];
+        const x = a * places[from] + b * places[from + 1] + c * places[from + 2],
+            y = d * places[from] + e * places[from + 1] + f * places[from + 2];
         points[to] = x;
         points[to + 1] = y;
         if (x < left) left = x;
@@ -76,7 +79,8 @@ export function fitInto(box, width, height) {
     return { scale, x: width / 2 - scale * (left + right) / 2, y: height / 2 - scale * (top + bottom) / 2 };
 }
 
-// Draws segments in parts, as a generator that gives way after each of them. `skips` lets only each so-manieth one be drawn; what is outside
+// Draws segments in parts, as a generator that gives way after each of them. `skips` lets only each so-manieth one be
+// drawn; what is outside
 // of the sheet isn't.
 export function* strokes(pen, points, widths, view, { width: wide, height: high, skips = 1 }) {
     const { scale, x: right, y: down } = view, count = points.length / 4;
@@ -88,7 +92,8 @@ export function* strokes(pen, points, widths, view, { width: wide, height: high,
             pen.beginPath();
             for (let put = 0; at < many && put < BATCH; at += skips) {
                 const from = 4 * (numbers ? numbers[at] : at);
-                const x = right + scale * points[from], y = down + scale * points[from + 1], x2 = right + scale * points[from + 2], y2 = down + scale * points[from + 3];
+                const x = right + scale * points[from], y = down + scale * points[from + 1],
+                    x2 = right + scale * points[from + 2], y2 = down + scale * points[from + 3];
                 if (x < 0 && x2 < 0 || y < 0 && y2 < 0 || x > wide && x2 > wide || y > high && y2 > high) continue;
                 pen.moveTo(x, y);
                 pen.lineTo(x2, y2);

@@ -1,4 +1,5 @@
-// The export menu: what one wants of a picture's file, and the files themselves. The server writes them, as tools/export does; a PNG that it can't
+// The export menu: what one wants of a picture's file, and the files themselves. The server writes them, as
+// tools/export does; a PNG that it can't
 // write for want of a program is drawn here.
 
 import { bytesOf, download, linkOf } from "/web/files.js";
@@ -40,13 +41,16 @@ export class Exports {
 
     async link() {
         globalThis.history.replaceState(null, "", await linkOf(this.page.lines().join("\n")));
-        const isCopied = await (navigator.clipboard ? navigator.clipboard.writeText(location.href).then(() => true, () => false) : false);
-        this.page.notice("The address of this page holds the script now" + (isCopied ? ", and is copied." : ": copy it from the address bar."));
+        const isCopied = await (navigator.clipboard ? navigator.clipboard.writeText(location.href)
+            .then(() => true, () => false) : false);
+        this.page.notice("The address of this page holds the script now"
+            + (isCopied ? ", and is copied." : ": copy it from the address bar."));
     }
 
     // What is asked of the server: the level or line that is seen, how it is turned, and of a PNG its size and ground.
     words(kind) {
-        const { picture, levels } = this.page, level = levels.chosen, line = level === null ? this.page.line() : null, words = [];
+        const { picture, levels } = this.page, level = levels.chosen, line = level === null ? this.page.line() : null,
+            words = [];
         if (level !== null) words.push(["level", level]);
         if (line !== null) words.push(["line", line]);
         if (DRAWN.includes(kind)) words.push(...viewWords(picture.view, picture.isInSpace()));

@@ -9,15 +9,18 @@ function colours() {
     return {
         startState: () => ({ line: "", names: 0, isFirst: true }),
         token(stream, state) {
-            if (stream.sol()) Object.assign(state, { line: stream.string, names: beginOfNames(stream.string), isFirst: true });
+            if (stream.sol())
+                Object.assign(state, { line: stream.string, names: beginOfNames(stream.string), isFirst: true });
             if (stream.sol() && stream.peek() === ";") return stream.skipToEnd(), "comment";
             if (stream.eatSpace()) return null;
             const hasNames = stream.pos >= state.names;
             const isFirst = state.isFirst;
             state.isFirst = false;
-            if (isFirst && stream.match(wordOf(state.line) || /[A-Za-z]\w*/)) return COMMANDS.includes(stream.current()) ? "keyword" : "error";
+            if (isFirst && stream.match(wordOf(state.line) || /[A-Za-z]\w*/))
+                return COMMANDS.includes(stream.current()) ? "keyword" : "error";
             if (stream.match(/\d+/)) return "number";
-            if (stream.match(hasNames ? /[A-Za-z](?:_[A-Za-z0-9]{1,6})?/ : /[A-Za-z]\w*/)) return hasNames ? "variable" : "def";
+            if (stream.match(hasNames ? /[A-Za-z](?:_[A-Za-z0-9]{1,6})?/ : /[A-Za-z]\w*/))
+                return hasNames ? "variable" : "def";
             if (stream.match(/=>|==|!=|<=|>=/)) return "operator";
             if (stream.match(/[()[\],]/)) return "bracket";
             return stream.match(/[:@+\-*/\\%&|^!<>=]/) ? "operator" : (stream.next(), "error");
@@ -36,7 +39,8 @@ function element(name, kind, text) {
 function besides(reply, onCounts) {
     const refused = reply.startsWith("refused ");
     const made = element("span", refused ? "reply refused" : "reply", refused ? "" : shortReply(reply));
-    made.dataset.reply = refused ? "" : shortReply(reply) === reply || !reply.startsWith("ok ") ? made.textContent : reply;
+    made.dataset.reply = refused ? "" : shortReply(reply) === reply || !reply.startsWith("ok ") ? made.textContent
+        : reply;
     if (reply.startsWith("ok ")) made.addEventListener("click", () => onCounts(reply));
     return made;
 }
@@ -49,17 +53,22 @@ function meantButton(meant, onTaken) {
     return made;
 }
 
-// A refusal below its line: a caret under the column, the reply, what helps, and the line that was meant. Of a line that takes several rows
+// A refusal below its line: a caret under the column, the reply, what helps, and the line that was meant. Of a line
+// that takes several rows
 // the part around the column stands above the caret.
 function below(field, number, reply, hint, onMeant) {
     const line = field.getLine(number), column = columnOf(reply), place = column ? placeOf(line, column) : 0;
     const made = element("div", "caret", "");
     const fits = Math.floor(field.getScrollInfo().clientWidth / field.defaultCharWidth()) - 8;
     const begin = line.length > fits ? Math.max(0, place - Math.floor(fits / 2)) : 0;
-    if (column && line.length > fits) made.append(element("div", "caret-part", line.slice(begin, begin + Math.max(10, fits))));
-    if (column) made.append(element("span", "caret-front", line.slice(begin, place).replace(/[^\t]/g, " ")), element("span", "caret-sign", "^ "));
+    if (column && line.length > fits)
+        made.append(element("div", "caret-part", line.slice(begin, begin + Math.max(10, fits))));
+    if (column)
+        made.append(element("span", "caret-front", line.slice(begin, place).replace(/[^\t]/g, " ")),
+            element("span", "caret-sign", "^ "));
     made.append(element("span", "caret-reply", refusalText(reply, hint)));
-    if (hint && hint.meant) made.append(element("span", "", " "), meantButton(hint.meant, () => onMeant(number, hint.meant)));
+    if (hint && hint.meant)
+        made.append(element("span", "", " "), meantButton(hint.meant, () => onMeant(number, hint.meant)));
     made.dataset.line = number + 1;
     return made;
 }
@@ -68,8 +77,10 @@ export class CodeMirrorField {
     constructor(place, handlers) {
         globalThis.CodeMirror.defineMode("lsys", colours);
         this.field = globalThis.CodeMirror(place, {
-            mode: "lsys", theme: "lsys", lineNumbers: true, lineSeparator: "\n", lineWrapping: true, maxHighlightLength: LONGEST_COLOURED,
-            extraKeys: { Tab: false, "Shift-Tab": false, Esc: field => field.getInputField().blur(), "Ctrl-Z": handlers.onUndo, "Ctrl-Y": handlers.onRedo,
+            mode: "lsys", theme: "lsys", lineNumbers: true, lineSeparator: "\n", lineWrapping: true,
+                maxHighlightLength: LONGEST_COLOURED,
+            extraKeys: { Tab: false, "Shift-Tab": false, Esc: field => field.getInputField().blur(),
+                "Ctrl-Z": handlers.onUndo, "Ctrl-Y": handlers.onRedo,
                 "Shift-Ctrl-Z": handlers.onRedo, "Cmd-Z": handlers.onUndo, "Shift-Cmd-Z": handlers.onRedo },
         });
         this.field.getInputField().setAttribute("aria-label", "the script");
@@ -103,7 +114,8 @@ export class CodeMirrorField {
         const end = before.length - last, wanted = lines.slice(first, lines.length - last);
         const cursor = this.field.getCursor();
         if (end > first && wanted.length) {
-            this.field.replaceRange(wanted.join("\n"), { line: first, ch: 0 }, { line: end - 1, ch: before[end - 1].length });
+            this.field.replaceRange(wanted.join("\n"), { line: first, ch: 0 },
+                { line: end - 1, ch: before[end - 1].length });
         } else if (wanted.length) {
             const isLast = first === before.length;
             const place = isLast ? { line: first - 1, ch: before[first - 1].length } : { line: first, ch: 0 };
@@ -111,7 +123,8 @@ export class CodeMirrorField {
         } else {
             const isLast = end === before.length;
             const from = isLast && first ? { line: first - 1, ch: before[first - 1].length } : { line: first, ch: 0 };
-            this.field.replaceRange("", from, isLast ? { line: end - 1, ch: before[end - 1].length } : { line: end, ch: 0 });
+            this.field.replaceRange("", from, isLast ? { line: end - 1, ch: before[end - 1].length }
+                : { line: end, ch: 0 });
         }
         if (end - first === wanted.length) this.field.setCursor(cursor, null, { scroll: false });
     }
@@ -136,7 +149,8 @@ export class CodeMirrorField {
 
     // The place of the text under the mouse, or null.
     placeUnder(event) {
-        if (!this.field.getWrapperElement().contains(event.target) || !event.target.closest(".CodeMirror-line")) return null;
+        if (!this.field.getWrapperElement().contains(event.target) || !event.target.closest(".CodeMirror-line"))
+            return null;
         const { line, ch } = this.field.coordsChar({ left: event.clientX, top: event.clientY }, "window");
         const box = this.field.charCoords({ line, ch }, "window"), column = box.left > event.clientX ? ch - 1 : ch;
         return column < 0 || column >= this.field.getLine(line).length ? null : { line, column };
@@ -161,7 +175,8 @@ export class CodeMirrorField {
         this.field.setOption("readOnly", !isAllowed);
     }
 
-    // Puts the replies beside their lines, each [number, reply], with the hints where there are some; what stands already stays.
+    // Puts the replies beside their lines, each [number, reply], with the hints where there are some; what stands
+    // already stays.
     showReplies(replies, hints) {
         this.field.operation(() => {
             const wanted = new Map(replies.map(([number, reply]) => [number, reply]));
@@ -170,14 +185,16 @@ export class CodeMirrorField {
                 if (!isSame || !this.stands(number, shown)) this.takeAway(number, shown);
             }
             for (const [number, reply] of wanted) {
-                if (!this.shown.has(number) && number < this.field.lineCount()) this.putReply(number, reply, hints.get(number));
+                if (!this.shown.has(number) && number < this.field.lineCount())
+                    this.putReply(number, reply, hints.get(number));
             }
         });
     }
 
     stands(number, shown) {
         const place = shown.beside.find();
-        return place && place.line === number && place.ch === this.field.getLine(number).length && shown.text === this.field.getLine(number);
+        return place && place.line === number && place.ch === this.field.getLine(number).length
+            && shown.text === this.field.getLine(number);
     }
 
     takeAway(number, shown) {
@@ -189,10 +206,12 @@ export class CodeMirrorField {
 
     putReply(number, reply, hint) {
         const text = this.field.getLine(number), refused = reply.startsWith("refused ");
-        const beside = this.field.setBookmark({ line: number, ch: text.length }, { widget: besides(reply, this.handlers.onCounts), insertLeft: true, handleMouseEvents: true });
+        const beside = this.field.setBookmark({ line: number, ch: text.length },
+            { widget: besides(reply, this.handlers.onCounts), insertLeft: true, handleMouseEvents: true });
         const handle = this.field.getLineHandle(number);
         if (refused) this.field.addLineClass(handle, "wrap", "refused-line");
-        const made = refused ? this.field.addLineWidget(number, below(this.field, number, reply, hint, this.handlers.onMeant)) : null;
+        const made = refused ? this.field.addLineWidget(number,
+            below(this.field, number, reply, hint, this.handlers.onMeant)) : null;
         this.shown.set(number, { reply, hint: JSON.stringify(hint), text, beside, handle, below: made });
     }
 

@@ -17,7 +17,8 @@ function withCaret(line, place) {
     const begin = Math.max(0, place - WIDEST / 2);
     const front = begin ? ".. " : "";
     const shown = line.slice(begin, begin + WIDEST).replace(/\t/g, " ");
-    return front + shown + (begin + WIDEST < line.length ? " .." : "") + "\n" + " ".repeat(front.length + place - begin) + "^";
+    return front + shown + (begin + WIDEST < line.length ? " .." : "") + "\n"
+        + " ".repeat(front.length + place - begin) + "^";
 }
 
 export class PlainField {
@@ -90,9 +91,11 @@ export class PlainField {
 
     // Where the cursor is on the page, by the size of its letters.
     caretBox() {
-        const box = this.area.getBoundingClientRect(), style = getComputedStyle(this.area), height = parseFloat(style.lineHeight), { line, column } = this.caret();
+        const box = this.area.getBoundingClientRect(), style = getComputedStyle(this.area),
+            height = parseFloat(style.lineHeight), { line, column } = this.caret();
         const top = box.top + 4 + line * height - this.area.scrollTop;
-        return { left: box.left + 8 + column * parseFloat(style.fontSize) * 0.6 - this.area.scrollLeft, top, bottom: top + height };
+        return { left: box.left + 8 + column * parseFloat(style.fontSize) * 0.6 - this.area.scrollLeft, top,
+            bottom: top + height };
     }
 
     // What is under the mouse isn't known of a plain area.
@@ -104,7 +107,8 @@ export class PlainField {
     goTo(line, column) {
         const lines = this.lines(), place = lines.slice(0, line).join("\n").length + (line ? 1 : 0) + column;
         this.area.setSelectionRange(place, place);
-        if (this.area.scrollHeight > this.area.clientHeight) this.area.scrollTop = Math.max(0, line - 3) * this.area.scrollHeight / lines.length;
+        if (this.area.scrollHeight > this.area.clientHeight)
+            this.area.scrollTop = Math.max(0, line - 3) * this.area.scrollHeight / lines.length;
         this.area.focus();
     }
 
@@ -112,7 +116,8 @@ export class PlainField {
     begin(line) {
         const lines = this.lines(), place = lines.slice(0, line).join("\n").length + (line ? 1 : 0);
         this.area.setSelectionRange(place, place);
-        if (this.area.scrollHeight > this.area.clientHeight) this.area.scrollTop = line * this.area.scrollHeight / lines.length;
+        if (this.area.scrollHeight > this.area.clientHeight)
+            this.area.scrollTop = line * this.area.scrollHeight / lines.length;
     }
 
     // Whether one may write in it.

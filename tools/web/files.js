@@ -26,7 +26,8 @@ async function through(stream, bytes) {
 export async function linkOf(script) {
     const bytes = await through(new CompressionStream("deflate-raw"), new TextEncoder().encode(script));
     let text = "";
-    for (let from = 0; from < bytes.length; from += 8192) text += String.fromCharCode(...bytes.subarray(from, from + 8192));
+    for (let from = 0; from < bytes.length; from += 8192)
+        text += String.fromCharCode(...bytes.subarray(from, from + 8192));
     return "#script=" + btoa(text).replace(/\+/g, "-").replace(/\//g, "_").replace(/=/g, "");
 }
 
@@ -36,7 +37,8 @@ export async function scriptOf(hash) {
     if (!found) return null;
     try {
         const text = atob(found[1].replace(/-/g, "+").replace(/_/g, "/"));
-        return new TextDecoder().decode(await through(new DecompressionStream("deflate-raw"), Uint8Array.from(text, sign => sign.charCodeAt(0))));
+        return new TextDecoder().decode(await through(new DecompressionStream("deflate-raw"),
+            Uint8Array.from(text, sign => sign.charCodeAt(0))));
     } catch (error) {
         return null;
     }

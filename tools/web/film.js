@@ -1,4 +1,5 @@
-// Films of the levels: WebM by the browser, GIF by a program of the server's machine, an SVG with frames, and one HTML file without a server.
+// Films of the levels: WebM by the browser, GIF by a program of the server's machine, an SVG with frames, and one HTML
+// file without a server.
 
 import { CORNER, drawAll, fitInto, place, widthsOf } from "/web/drawing.js";
 import { download } from "/web/files.js";
@@ -13,7 +14,8 @@ const wait = time => new Promise(done => setTimeout(done, time));
 async function packed(blob) {
     const bytes = new Uint8Array(await blob.arrayBuffer());
     let text = "";
-    for (let from = 0; from < bytes.length; from += 8192) text += String.fromCharCode(...bytes.subarray(from, from + 8192));
+    for (let from = 0; from < bytes.length; from += 8192)
+        text += String.fromCharCode(...bytes.subarray(from, from + 8192));
     return btoa(text);
 }
 
@@ -66,7 +68,8 @@ export class Film {
     // `told` gives the state, the desk, the growth, which has the levels, and the milliseconds for each.
     constructor(told, deed, notice) {
         Object.assign(this, { told, deed, notice });
-        for (const kind of ["webm", "gif", "svg", "html"]) at("film_" + kind).addEventListener("click", () => this.give(kind));
+        for (const kind of ["webm", "gif", "svg", "html"])
+            at("film_" + kind).addEventListener("click", () => this.give(kind));
     }
 
     // Gives all levels as a file of a kind.
@@ -80,7 +83,8 @@ export class Film {
 
     async make(kind) {
         const { state, pace } = this.told(), stem = (state.name || "film").replace(/\.lsys$/, "");
-        if (kind === "webm" || kind === "gif") return download(await (kind === "gif" ? gif : webm)(await this.levels(), pace), stem + "." + kind);
+        if (kind === "webm" || kind === "gif")
+            return download(await (kind === "gif" ? gif : webm)(await this.levels(), pace), stem + "." + kind);
         const answer = await get("/film/" + kind + "?text=" + state.text + "&pace=" + pace);
         return download(await answer.blob(), /filename="([^"]*)"/.exec(answer.headers.get("Content-Disposition"))[1]);
     }
@@ -88,7 +92,8 @@ export class Film {
     async levels() {
         const { state, growth } = this.told(), found = [];
         for (let level = 0; level <= state.depth; level++) found.push(await growth.level(level));
-        if (!found.every(data => data && data.isWhole)) throw new Error("Not all levels have a picture that can be had: one is refused, or is too large.");
+        if (!found.every(data => data && data.isWhole))
+            throw new Error("Not all levels have a picture that can be had: one is refused, or is too large.");
         return found;
     }
 }

@@ -1,4 +1,5 @@
-// Growth as it is watched: the frame that fits the last level, and the module under the pointer, of which the program tells where it comes
+// Growth as it is watched: the frame that fits the last level, and the module under the pointer, of which the program
+// tells where it comes
 // from and what becomes of it.
 
 import { parse } from "/web/drawing.js";
@@ -50,8 +51,10 @@ export class Growth {
     // Gives the picture its frame: that of the last level while another one is seen, where one frame is wanted.
     async frame() {
         const { state, levels, picture } = this.told();
-        if (!at("one_frame").checked || levels.chosen === null && levels.playing === null) return picture.setFrame(null);
-        const { text, depth, lattice } = state, isLast = picture.data && picture.data.level === depth && picture.asked.text === text && picture.asked.line === null;
+        if (!at("one_frame").checked || levels.chosen === null && levels.playing === null)
+            return picture.setFrame(null);
+        const { text, depth, lattice } = state, isLast = picture.data && picture.data.level === depth
+            && picture.asked.text === text && picture.asked.line === null;
         const data = isLast ? picture.data : await this.level(depth);
         if (this.told().state.text !== text) return null;
         if (data && data.isWhole) return picture.setFrame(data);
@@ -81,7 +84,8 @@ export class Growth {
         const x = (right - view.x) / view.scale, y = (down - view.y) / view.scale;
         let least = (NEAR / view.scale) ** 2, found = null;
         for (let from = 0; from < points.length; from += 4) {
-            const a = points[from], b = points[from + 1], c = points[from + 2] - a, d = points[from + 3] - b, long = c * c + d * d;
+            const a = points[from], b = points[from + 1], c = points[from + 2] - a, d = points[from + 3] - b,
+                long = c * c + d * d;
             const part = long ? Math.max(0, Math.min(1, ((x - a) * c + (y - b) * d) / long)) : 0;
             const away = (x - a - part * c) ** 2 + (y - b - part * d) ** 2;
             if (away < least) least = away, found = from / 4;
@@ -93,7 +97,8 @@ export class Growth {
     key(event) {
         if (event.ctrlKey || event.altKey || event.metaKey || event.key.toLowerCase() !== "n") return;
         event.preventDefault();
-        const { picture } = this.told(), count = picture.data ? picture.data.count : 0, [first, last] = this.module ? this.module.segments : [0, 0];
+        const { picture } = this.told(), count = picture.data ? picture.data.count : 0, [first, last] = this.module
+            ? this.module.segments : [0, 0];
         if (count) this.ask(this.module ? (event.shiftKey ? first - 1 + count : last) % count : 0);
     }
 
@@ -101,13 +106,17 @@ export class Growth {
     async ask(segment) {
         const { state, picture, line } = this.told();
         const key = segment === null ? null : state.text + " " + picture.data.level + " " + segment;
-        const isSame = segment !== null && this.module && this.asked && this.asked.startsWith(key.slice(0, key.lastIndexOf(" ") + 1)) && segment >= this.module.segments[0] && segment < this.module.segments[1];
+        const isSame = segment !== null && this.module && this.asked
+            && this.asked.startsWith(key.slice(0, key.lastIndexOf(" ") + 1)) && segment >= this.module.segments[0]
+            && segment < this.module.segments[1];
         if (key === this.asked || isSame) return;
         this.asked = key;
         if (segment === null) return this.show(null);
-        if (line() !== null) return this.show({ untold: "of a picture that a line of the script asks for no modules are told" });
+        if (line() !== null)
+            return this.show({ untold: "of a picture that a line of the script asks for no modules are told" });
         try {
-            const told = await (await get("/module?text=" + state.text + "&level=" + picture.data.level + "&segment=" + segment)).json();
+            const told = await (await get("/module?text=" + state.text + "&level=" + picture.data.level + "&segment="
+                + segment)).json();
             if (this.asked === key) await this.show(told, key);
         } catch (error) {
             if (this.asked === key) this.show(null);
@@ -121,19 +130,24 @@ export class Growth {
         at("module").hidden = !told;
         if (!told) return picture.light([]);
         at("module_told").textContent = told.untold || this.words(told);
-        at("module_way").replaceChildren(...(told.ancestors || []).map((each, level, all) => this.wayOf(each, level + told.level + 1 - all.length)).flat());
+        at("module_way").replaceChildren(...(told.ancestors || [])
+            .map((each, level, all) => this.wayOf(each, level + told.level + 1 - all.length)).flat());
         if (told.untold) return picture.light([]);
         const lit = [this.lightOf(picture.data, told.segments, "--accent", 3)];
         picture.light(lit);
-        const [first, last] = told.child_segments || [0, 0], next = last > first ? await this.level(told.level + 1) : null;
-        if (this.asked === key && next && next.isWhole && next.lattice === picture.data.lattice) picture.light([...lit, this.lightOf(next, [first, last], "--label", 2)]);
+        const [first, last] = told.child_segments || [0, 0], next = last > first ? await this.level(told.level + 1)
+            : null;
+        if (this.asked === key && next && next.isWhole && next.lattice === picture.data.lattice)
+            picture.light([...lit, this.lightOf(next, [first, last], "--label", 2)]);
         return null;
     }
 
     words(told) {
-        const came = told.came ? "It came from `" + told.came + "`." : told.level === 0 ? "It is of the axiom." : "No rule put it: it stayed.";
+        const came = told.came ? "It came from `" + told.came + "`." : told.level === 0 ? "It is of the axiom."
+            : "No rule put it: it stayed.";
         const drawn = told.image ? " It is drawn by hom " + told.image + "." : "";
-        const becomes = !told.children ? "" : " On level " + (told.level + 1) + (told.children.length === 0 ? " nothing is left of it" : " it is " + told.children.join(" "))
+        const becomes = !told.children ? "" : " On level " + (told.level + 1)
+            + (told.children.length === 0 ? " nothing is left of it" : " it is " + told.children.join(" "))
             + (told.by ? ", by " + told.by + "." : ", by no rule.");
         return told.module + ", module " + told.number + " of level " + told.level + ". " + came + drawn + becomes;
     }
@@ -142,7 +156,8 @@ export class Growth {
     wayOf([module, number, label], level) {
         const term = page.createElement("dt"), text = page.createElement("dd");
         term.textContent = "level " + level;
-        text.textContent = module + (level === 0 ? ", symbol " + number + " of the axiom" : ", child " + number + (label ? " by " + label : ", by no rule"));
+        text.textContent = module + (level === 0 ? ", symbol " + number + " of the axiom"
+            : ", child " + number + (label ? " by " + label : ", by no rule"));
         return [term, text];
     }
 

@@ -1,4 +1,5 @@
-// The language's page, docs/LANGUAGE.md, at the side: its sections with a search, its commands, and its examples to be opened; and what a word
+// The language's page, docs/LANGUAGE.md, at the side: its sections with a search, its commands, and its examples to be
+// opened; and what a word
 // or a turtle's letter under the mouse or at the cursor is.
 
 import { COMMANDS, beginOfNames, wordOf } from "/web/language.js";
@@ -53,7 +54,8 @@ function showSection(anchor) {
 }
 
 function cellsOf(row) {
-    return row.replace(/^\|\s*|\s*\|$/g, "").split(/(?<!\\)\|/).map(cell => cell.trim().replace(/\\\|/g, "|").replace(/\\\\/g, "\\"));
+    return row.replace(/^\|\s*|\s*\|$/g, "").split(/(?<!\\)\|/)
+        .map(cell => cell.trim().replace(/\\\|/g, "|").replace(/\\\\/g, "\\"));
 }
 
 function table(rows) {
@@ -98,7 +100,8 @@ export function sectionsOf(text, onOpen) {
         const line = lines[number], heading = /^(#+) (.*)/.exec(line);
         let end = number + 1;
         if (heading || section === null) {
-            const title = heading ? heading[2] : "", made = element(heading && heading[1].length > 2 ? "h4" : "h3", title);
+            const title = heading ? heading[2] : "", made = element(heading && heading[1].length > 2 ? "h4" : "h3",
+                title);
             made.tabIndex = -1;
             section = element("section");
             section.id = anchorOf(title);
@@ -112,7 +115,8 @@ export function sectionsOf(text, onOpen) {
             end = take(number, each => each.startsWith("|"));
             section.append(table(lines.slice(number, end)));
         } else if (line.trim() !== "") {
-            end = take(number, each => each.trim() !== "" && !/^(#|\||```)/.test(each) && (each === line || !each.startsWith("- ")));
+            end = take(number, each => each.trim() !== "" && !/^(#|\||```)/.test(each)
+                && (each === line || !each.startsWith("- ")));
             const made = element(line.startsWith("- ") ? "li" : "p");
             made.append(...inline(lines.slice(number, end).join(" ").replace(/^- /, "")));
             section.append(made);
@@ -128,11 +132,16 @@ export function tipsOf(text) {
     for (const row of text.split("\n").filter(line => line.startsWith("| "))) {
         const [head, told] = cellsOf(row), word = /^\[?`([a-z]+)\b([^`]*)`\]?(?:\(#\w+\))?/.exec(head);
         const plain = (told || "").replace(/[`*]|\[|\]\([^)]*\)/g, "");
-        if (word && COMMANDS.includes(word[1]) && !commands.has(word[1])) commands.set(word[1], word[1] + word[2] + ": " + plain);
+        if (word && COMMANDS.includes(word[1]) && !commands.has(word[1]))
+            commands.set(word[1], word[1] + word[2] + ": " + plain);
         const isTurtle = /^(a name that begins with `[Ff]`|(`[-+&^\\/|!]`\s*)+)$/.test(head);
-        if (isTurtle) for (const [, sign] of head.matchAll(/`([^`])`/g)) if (!signs.has(sign)) signs.set(sign, sign + ": " + plain);
+        if (isTurtle)
+            for (const [, sign] of head.matchAll(/`([^`])`/g))
+                if (!signs.has(sign)) signs.set(sign, sign + ": " + plain);
     }
-    signs.set("[", "[: a branch begins; the turtle's place is kept").set("]", "]: the branch ends; the turtle goes back to where it began").set("%", "%: a cut, which takes what follows in its branch away");
+    signs.set("[", "[: a branch begins; the turtle's place is kept")
+        .set("]", "]: the branch ends; the turtle goes back to where it began")
+        .set("%", "%: a cut, which takes what follows in its branch away");
     return { commands, signs };
 }
 

@@ -1,4 +1,5 @@
-// The scripts that there were, for undo and redo. `undo` and `redo` give a script or null, and nothing else is asked of them, so that
+// The scripts that there were, for undo and redo. `undo` and `redo` give a script or null, and nothing else is asked of
+// them, so that
 // the program's own commands can stand here as soon as there are any.
 
 const MOST = 400;
@@ -23,7 +24,8 @@ export class History {
         this.scripts.length = goesOn ? this.at : this.at + 1;
         this.scripts.push(script);
         let signs = this.scripts.reduce((sum, each) => sum + each.length, 0);
-        while (this.scripts.length > 2 && (this.scripts.length > MOST || signs > MOST_SIGNS)) signs -= this.scripts.shift().length;
+        while (this.scripts.length > 2 && (this.scripts.length > MOST || signs > MOST_SIGNS))
+            signs -= this.scripts.shift().length;
         this.at = this.scripts.length - 1;
     }
 

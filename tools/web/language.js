@@ -1,7 +1,9 @@
-// What a page has to know of the language: its words, where the numbers of a line are, and which line an edit replaces. What a script
+// What a page has to know of the language: its words, where the numbers of a line are, and which line an edit replaces.
+// What a script
 // means only the program says, and what helps where a line is refused the server tells, as on the terminal.
 
-export const EDITS = ["axiom", "production", "drop", "ignore", "schedule", "seed", "depth", "lattice", "hom", "version", "ignoring", "consider", "common", "lineage"];
+export const EDITS = ["axiom", "production", "drop", "ignore", "schedule", "seed", "depth", "lattice", "hom",
+    "version", "ignoring", "consider", "common", "lineage"];
 export const QUERIES = ["string", "segments", "svg", "show", "bounds", "at", "growth"];
 export const STEPS = ["undo", "redo"];
 export const COMMANDS = [...EDITS, ...QUERIES, ...STEPS, "quit"];
@@ -34,7 +36,8 @@ export function numbersOf(line) {
     for (const [text, from, to, pattern] of [[line, 0, names, token], [line, names, line.length, name]]) {
         pattern.lastIndex = from;
         for (let match; (match = pattern.exec(text)) && match.index < to;) {
-            if (/^\d/.test(match[0])) found.push({ from: match.index, to: match.index + match[0].length, text: match[0] });
+            if (/^\d/.test(match[0]))
+                found.push({ from: match.index, to: match.index + match[0].length, text: match[0] });
         }
     }
     return found;
@@ -48,7 +51,8 @@ export function numberAt(line, column) {
 function subjectOf(line) {
     const word = wordOf(line);
     const colon = line.indexOf(":");
-    if (RULES.includes(word)) return "rule " + line.slice(0, colon < 0 ? line.length : colon).trim().split(/[ \t]+/).pop();
+    if (RULES.includes(word))
+        return "rule " + line.slice(0, colon < 0 ? line.length : colon).trim().split(/[ \t]+/).pop();
     if (["ignoring", "consider", "common"].includes(word)) return "own " + (line.trim().split(/[ \t:]+/)[1] || "");
     return word;
 }
@@ -96,9 +100,12 @@ export function placeOf(line, column) {
 // A reply as it stands beside its line.
 export function shortReply(reply) {
     const counts = /^ok (\d+)\/(\d+)$/.exec(reply);
-    if (counts) return counts[2] === "0" ? "ok" : "asked anew " + Number(counts[1]).toLocaleString("en") + " of " + Number(counts[2]).toLocaleString("en");
+    if (counts)
+        return counts[2] === "0" ? "ok" : "asked anew " + Number(counts[1]).toLocaleString("en") + " of "
+            + Number(counts[2]).toLocaleString("en");
     const picture = /^segments (\d+)/.exec(reply);
-    if (picture) return "a picture of " + Number(picture[1]).toLocaleString("en") + (picture[1] === "1" ? " line" : " lines");
+    if (picture)
+        return "a picture of " + Number(picture[1]).toLocaleString("en") + (picture[1] === "1" ? " line" : " lines");
     const text = reply.split("\n").slice(0, 12).join("\n");
     return text.length > 160 ? text.slice(0, 160) + " .." : text;
 }
@@ -106,7 +113,8 @@ export function shortReply(reply) {
 // What the counts of an edit say.
 export function countsMeaning(asked, all) {
     if (all === "0") return "No module of the derivation has a rule, so nothing had to be asked.";
-    return "Of the " + Number(all).toLocaleString("en") + " modules that have a rule, " + Number(asked).toLocaleString("en")
+    return "Of the " + Number(all).toLocaleString("en") + " modules that have a rule, "
+        + Number(asked).toLocaleString("en")
         + " had to be asked anew what becomes of them; all others kept the answer that they had.";
 }
 

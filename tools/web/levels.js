@@ -1,4 +1,5 @@
-// The depth, which is a line of the script, and the level that is looked at, which is none: levels up to the depth can be walked through
+// The depth, which is a line of the script, and the level that is looked at, which is none: levels up to the depth can
+// be walked through
 // and played, and their strings read.
 
 import { depthOf, greatestDepth, withEdit } from "/web/language.js";
@@ -10,7 +11,8 @@ const LEAST_RANGE = 10;
 const PACES = [2000, 1000, 400, 200, 100, 40];
 
 export class Levels {
-    // `onDepth` gets the lines with another depth, `onLevel` is called where another level is to be seen, and gives what is kept once it is seen.
+    // `onDepth` gets the lines with another depth, `onLevel` is called where another level is to be seen, and gives
+    // what is kept once it is seen.
     constructor(lines, onDepth, onLevel) {
         Object.assign(this, { lines, onDepth, onLevel, state: null, chosen: null, playing: null });
         at("depth").addEventListener("input", () => this.setDepth(Number(at("depth").value)));
@@ -52,7 +54,8 @@ export class Levels {
         return this.onLevel();
     }
 
-    // A new state of the script. A level past the depth is none any more. While a line is being typed that is refused as it is, depth and
+    // A new state of the script. A level past the depth is none any more. While a line is being typed that is refused
+    // as it is, depth and
     // level stay.
     take(state, lines, isTyping) {
         if (isTyping && this.state) {
@@ -93,7 +96,8 @@ export class Levels {
         at("pace").setAttribute("aria-valuetext", at("pace_value").textContent);
     }
 
-    // Shows the levels to the depth one after another, from this one on, or from level 0 where this is the last one; once more, it stops.
+    // Shows the levels to the depth one after another, from this one on, or from level 0 where this is the last one;
+    // once more, it stops.
     play() {
         if (this.playing !== null) {
             this.stop();
@@ -124,7 +128,8 @@ export class Levels {
 
     // Keys in the picture: a level back and on, the first one and the last one, play.
     key(event) {
-        const deeds = { ",": () => this.choose(this.level() - 1), ".": () => this.choose(this.level() + 1), " ": () => this.play(), Home: () => this.choose(0),
+        const deeds = { ",": () => this.choose(this.level() - 1), ".": () => this.choose(this.level() + 1),
+            " ": () => this.play(), Home: () => this.choose(0),
             End: () => this.choose(Infinity) };
         if (event.ctrlKey || event.altKey || event.metaKey || !deeds[event.key]) return;
         event.preventDefault();
@@ -141,7 +146,8 @@ export class Levels {
             if (this.shown !== key) return;
             at("string").textContent = told.string || "(empty)";
             at("string_cut").hidden = told.length <= told.string.length;
-            at("string_cut").textContent = "cut: the first " + told.string.length.toLocaleString("en") + " of " + told.length.toLocaleString("en") + " signs";
+            at("string_cut").textContent = "cut: the first " + told.string.length.toLocaleString("en") + " of "
+                + told.length.toLocaleString("en") + " signs";
         } catch (error) {
             this.shown = null;
         }

@@ -30,22 +30,32 @@ class Page {
         this.history = null;
         this.isHeld = false;
         this.noticed = null;
-        this.desk = new Desk({ onState: state => this.take(state), onScript: script => this.takeScript(script), onClash: () => this.askOfClash(),
-            onGone: isGone => this.tellGone(isGone), onWrong: word => this.notice(word), onNewDesk: () => this.askOfNewDesk() });
-        const handlers = { onChange: lines => this.change(lines, "typing"), onCaret: () => this.tellCaret(), onUndo: () => this.undo(), onRedo: () => this.redo(),
-            onDrag: (line, column) => this.dragOf(line, column), onCounts: reply => this.tellMeaning(reply), onMeant: (line, meant) => this.takeMeant(line, meant) };
-        this.field = globalThis.CodeMirror ? new CodeMirrorField(at("editor"), handlers) : new PlainField(at("editor"), handlers);
+        this.desk = new Desk({ onState: state => this.take(state), onScript: script => this.takeScript(script),
+            onClash: () => this.askOfClash(),
+            onGone: isGone => this.tellGone(isGone), onWrong: word => this.notice(word),
+                onNewDesk: () => this.askOfNewDesk() });
+        const handlers = { onChange: lines => this.change(lines, "typing"), onCaret: () => this.tellCaret(),
+            onUndo: () => this.undo(), onRedo: () => this.redo(),
+            onDrag: (line, column) => this.dragOf(line, column), onCounts: reply => this.tellMeaning(reply),
+                onMeant: (line, meant) => this.takeMeant(line, meant) };
+        this.field = globalThis.CodeMirror ? new CodeMirrorField(at("editor"), handlers)
+            : new PlainField(at("editor"), handlers);
         this.picture = new Picture(at("picture"), () => this.tellPicture());
         this.levels = new Levels(() => this.lines(), lines => this.put(lines, "depth"), () => this.seeLevel());
         this.exports = new Exports(this);
-        this.growth = new Growth(() => ({ state: this.state, levels: this.levels, picture: this.picture, line: () => this.line() }));
+        this.growth = new Growth(() => ({ state: this.state, levels: this.levels, picture: this.picture,
+            line: () => this.line() }));
         this.gallery = new Gallery(name => this.open({ name }));
-        this.beside = new Beside(() => ({ picture: this.picture, lines: () => this.lines() }), lines => this.put(lines, ""));
+        this.beside = new Beside(() => ({ picture: this.picture, lines: () => this.lines() }),
+            lines => this.put(lines, ""));
         this.picture.onDrawn = () => this.beside.picture && this.beside.held && this.beside.picture.draw();
-        this.film = new Film(() => ({ isGone: this.isGone, state: this.state, desk: this.desk, growth: this.growth, pace: this.levels.pace() }), deed => this.deed(deed), word => this.notice(word));
-        this.sheet = new Sheet({ desk: this.desk, lines: () => this.lines(), caret: () => this.field.caret(), onTaken: lines => this.put(lines, "") });
+        this.film = new Film(() => ({ isGone: this.isGone, state: this.state, desk: this.desk, growth: this.growth,
+            pace: this.levels.pace() }), deed => this.deed(deed), word => this.notice(word));
+        this.sheet = new Sheet({ desk: this.desk, lines: () => this.lines(), caret: () => this.field.caret(),
+            onTaken: lines => this.put(lines, "") });
         this.help = new Help(script => this.open({ name: "from the help", script }));
-        this.completion = new Completion(() => ({ lines: this.lines(), caret: this.field.caret(), box: this.field.caretBox() }), (...choice) => this.complete(...choice));
+        this.completion = new Completion(() => ({ lines: this.lines(), caret: this.field.caret(),
+            box: this.field.caretBox() }), (...choice) => this.complete(...choice));
         this.listen();
         // The key of the address is spent.
         if (location.search) globalThis.history.replaceState(null, "", location.pathname + location.hash);
@@ -111,9 +121,11 @@ class Page {
         this.isHeld = script.length > LONG_SCRIPT && !this.isLetIn;
         this.field.allow(!this.isHeld);
         if (!this.isHeld || wasHeld) return;
-        this.field.setLines(["; This script has " + size + " signs. It is derived and drawn, and not put into this field."]);
+        this.field.setLines(["; This script has " + size
+            + " signs. It is derived and drawn, and not put into this field."]);
         this.field.showReplies([], new Map());
-        this.ask("This script has " + size + " signs.", "Edit it all the same", () => this.letIn(), "Leave it", () => {});
+        this.ask("This script has " + size + " signs.", "Edit it all the same", () => this.letIn(), "Leave it",
+            () => {});
     }
 
     letIn() {
@@ -127,7 +139,8 @@ class Page {
     // All that a new state changes on the page.
     take(state) {
         const isFirst = this.state === null;
-        const isNewText = isFirst || state.text !== this.state.text || state.replies.length !== this.state.replies.length || state.refused !== this.state.refused;
+        const isNewText = isFirst || state.text !== this.state.text
+            || state.replies.length !== this.state.replies.length || state.refused !== this.state.refused;
         this.state = state;
         at("name").textContent = state.name || "a new script";
         page.title = (state.kept ? "" : "* ") + (state.name || "lsys");
@@ -141,7 +154,8 @@ class Page {
         this.tellWhich();
         if (isNewText) this.growth.frame();
         const isStopped = state.stopped && (state.stopped[0] === null || !state.running);
-        if (!isStopped && (isNewText || this.picture.asked === null || this.picture.asked.text !== state.text)) this.wantPicture();
+        if (!isStopped && (isNewText || this.picture.asked === null || this.picture.asked.text !== state.text))
+            this.wantPicture();
         this.tellPicture();
         page.body.dataset.turn = state.turn;
         page.body.dataset.pending = this.desk.isPending();
@@ -162,7 +176,8 @@ class Page {
     tellBusy(told) {
         at("busy").hidden = told === null;
         if (told === null) return;
-        const what = told.line ? "Working at `" + told.line + "`, " + Math.round(told.seconds) + " s so far." : "Working ..";
+        const what = told.line ? "Working at `" + told.line + "`, " + Math.round(told.seconds) + " s so far."
+            : "Working ..";
         at("busy").querySelector("span").textContent = what;
     }
 
@@ -176,9 +191,12 @@ class Page {
         if (key === this.stoppedTold) return;
         const before = this.stoppedWord, [line, text] = stopped || [null, ""];
         this.stoppedTold = key;
-        this.stoppedWord = !stopped ? "" : line === null ? "`" + text + "` was stopped. The script is answered; the picture stays as it was."
-            : "Line " + (line + 1) + ", `" + text + "`, was stopped. The lines before it are answered: change it to go on.";
-        if (stopped || before && at("notice").querySelector("span").textContent === before) this.notice(this.stoppedWord);
+        this.stoppedWord = !stopped ? "" : line === null
+            ? "`" + text + "` was stopped. The script is answered; the picture stays as it was."
+            : "Line " + (line + 1) + ", `" + text
+                + "`, was stopped. The lines before it are answered: change it to go on.";
+        if (stopped || before && at("notice").querySelector("span").textContent === before)
+            this.notice(this.stoppedWord);
     }
 
     // Takes the script of the address, where it holds one; asks before that where there is another one.
@@ -196,15 +214,18 @@ class Page {
     tellCounts(counts) {
         const [asked, all] = counts || [0, 0];
         at("bar").style.width = (all ? 100 * asked / all : 0) + "%";
-        at("counts_text").textContent = counts ? "last edit: asked anew " + numeral(asked) + " of " + numeral(all) : "no edit yet";
+        at("counts_text").textContent = counts ? "last edit: asked anew " + numeral(asked) + " of " + numeral(all)
+            : "no edit yet";
         at("counts").dataset.counts = counts ? asked + "/" + all : "";
         if (!at("counts_meaning").hidden) this.tellMeaning(null, true);
     }
 
     // What the counts of a reply, or those of the last edit, mean; once more, hides it.
     tellMeaning(reply, stays = false) {
-        const counts = reply ? /^ok (\d+)\/(\d+)$/.exec(reply).slice(1) : (at("counts").dataset.counts || "0/0").split("/");
-        const text = countsMeaning(...counts), isShown = !at("counts_meaning").hidden && at("counts_meaning").textContent === text && !stays;
+        const counts = reply ? /^ok (\d+)\/(\d+)$/.exec(reply).slice(1)
+            : (at("counts").dataset.counts || "0/0").split("/");
+        const text = countsMeaning(...counts), isShown = !at("counts_meaning").hidden
+            && at("counts_meaning").textContent === text && !stays;
         at("counts_meaning").hidden = isShown;
         at("counts_meaning").textContent = text;
         at("counts").setAttribute("aria-expanded", String(!isShown));
@@ -234,7 +255,8 @@ class Page {
     // Whether the only refused line is the one that is being typed.
     isTyping() {
         const refused = this.refused();
-        return refused.length === 1 && this.state.refused === 1 && this.field.hasFocus() && this.field.caret().line === refused[0][0];
+        return refused.length === 1 && this.state.refused === 1 && this.field.hasFocus()
+            && this.field.caret().line === refused[0][0];
     }
 
     tellNotice(state) {
@@ -244,7 +266,8 @@ class Page {
         const isOfFile = this.question === "file";
         if (state.asked && !isOfFile) {
             const word = "Another program changed the file, and this text isn't saved.";
-            this.ask(word, "Take the file's text", () => this.settle(true), "Keep this text", () => this.settle(false), "file");
+            this.ask(word, "Take the file's text", () => this.settle(true), "Keep this text", () => this.settle(false),
+                "file");
         } else if (!state.asked && isOfFile) {
             this.ask(null);
         }
@@ -278,7 +301,8 @@ class Page {
 
     askOfClash() {
         const settle = takesOther => () => this.desk.settleClash(takesOther);
-        this.ask("The script was changed elsewhere while this page changed it.", "Take the other text", settle(true), "Put this page's text", settle(false));
+        this.ask("The script was changed elsewhere while this page changed it.", "Take the other text", settle(true),
+            "Put this page's text", settle(false));
     }
 
     askOfNewDesk() {
@@ -334,7 +358,8 @@ class Page {
             return;
         }
         const stem = (this.state.name || "script").replace(/\.lsys$/, "").replace(/\W+/g, "_");
-        const name = globalThis.prompt("The file's name, in the folder in which tools/look was started:", stem + ".lsys");
+        const name = globalThis.prompt("The file's name, in the folder in which tools/look was started:",
+            stem + ".lsys");
         if (name) await this.saveAs(name);
     }
 
@@ -385,14 +410,19 @@ class Page {
     tellPicture() {
         this.beside.tell();
         const { data, large, refusal } = this.picture;
-        const isStale = Boolean(this.state.refused && data && this.drawnFrom && this.drawnFrom.text !== this.state.text);
+        const isStale = Boolean(this.state.refused && data && this.drawnFrom
+            && this.drawnFrom.text !== this.state.text);
         at("picture").classList.toggle("stale", isStale || Boolean(large));
         this.tellRefused(data);
         at("large").hidden = !large;
-        if (large) at("large").querySelector("span").textContent = "This picture has " + numeral(large.count) + " lines, more than " + numeral(ASKED_ABOVE) + ".";
+        if (large)
+            at("large").querySelector("span").textContent = "This picture has " + numeral(large.count)
+                + " lines, more than " + numeral(ASKED_ABOVE) + ".";
         const count = data ? numeral(data.count) + (data.count === 1 ? " line" : " lines") : "";
-        const isElsewhere = () => this.lines().some(line => !line.startsWith(";") && /[^A-Za-z_]G/.test(line.slice(beginOfNames(line))));
-        const none = data && data.count === 0 ? ": only names that begin with F draw" + (isElsewhere() ? "; G is a letter like others here" : "") : "";
+        const isElsewhere = () => this.lines().some(line => !line.startsWith(";")
+            && /[^A-Za-z_]G/.test(line.slice(beginOfNames(line))));
+        const none = data && data.count === 0 ? ": only names that begin with F draw"
+            + (isElsewhere() ? "; G is a letter like others here" : "") : "";
         const word = refusal ? "no picture: " + refusal : data ? count + ", level " + data.level + none : "";
         at("told").textContent = word;
         at("picture").setAttribute("aria-label", word || "no picture yet");
@@ -406,9 +436,11 @@ class Page {
         const [line, reply] = first, hint = this.hints().get(line);
         const told = "line " + numeral(line + 1) + " is refused: " + (hint && hint.told || reply);
         if (at("to_refused").textContent !== told) at("to_refused").textContent = told;
-        at("to_refused").onclick = () => this.field.goTo(line, Math.max(0, placeOf(this.lines()[line] || "", columnOf(reply))));
+        at("to_refused").onclick = () => this.field.goTo(line,
+            Math.max(0, placeOf(this.lines()[line] || "", columnOf(reply))));
         const more = this.state.refused > 1 ? "So are " + numeral(this.state.refused - 1) + " more. " : "";
-        at("stale").querySelector("span").textContent = more + (data ? "The picture is of " + this.drawnLines(line) + "." : "");
+        at("stale").querySelector("span").textContent = more
+            + (data ? "The picture is of " + this.drawnLines(line) + "." : "");
     }
 
     // Of which lines the picture is, where line number `first` is the first that is refused.
@@ -416,8 +448,10 @@ class Page {
         const front = first === 0 ? "no line" : first === 1 ? "line 1" : "lines 1 to " + numeral(first);
         const isCommand = line => line.trim() !== "" && !line.startsWith(";") && !QUERIES.includes(wordOf(line));
         const { text, lines } = this.drawnFrom || { text: 0, lines: [] };
-        if (text === this.state.text) return lines.slice(first + 1).some(isCommand) ? "all lines but those that are refused" : front;
-        const isFront = lines.slice(0, first).join("\n") === this.lines().slice(0, first).join("\n") && !lines.slice(first).some(isCommand);
+        if (text === this.state.text)
+            return lines.slice(first + 1).some(isCommand) ? "all lines but those that are refused" : front;
+        const isFront = lines.slice(0, first).join("\n") === this.lines().slice(0, first).join("\n")
+            && !lines.slice(first).some(isCommand);
         return isFront ? front : "the script before line " + numeral(first + 1) + " was changed";
     }
 
@@ -430,16 +464,19 @@ class Page {
 
     // What stands under the mouse.
     tellHover(event) {
-        const place = this.isHeld ? null : this.field.placeUnder(event), text = place ? this.help.tipAt(this.lines()[place.line] || "", place.column) : "";
+        const place = this.isHeld ? null : this.field.placeUnder(event), text = place
+            ? this.help.tipAt(this.lines()[place.line] || "", place.column) : "";
         at("tip").hidden = !text;
         at("tip").textContent = text;
-        at("tip").style.left = Math.max(4, Math.min(event.clientX + 12, globalThis.innerWidth - at("tip").offsetWidth - 8)) + "px";
+        at("tip").style.left = Math.max(4, Math.min(event.clientX + 12,
+            globalThis.innerWidth - at("tip").offsetWidth - 8)) + "px";
         at("tip").style.top = event.clientY + 18 + "px";
     }
 
     // Puts a choice in the place of what was begun.
     complete(line, from, column, text) {
-        const lines = this.lines(), old = lines[line] || "", parts = (old.slice(0, from) + text + old.slice(column)).split("\n");
+        const lines = this.lines(), old = lines[line] || "",
+            parts = (old.slice(0, from) + text + old.slice(column)).split("\n");
         this.put([...lines.slice(0, line), ...parts, ...lines.slice(line + 1)], "");
         const last = parts.length - 1;
         this.field.goTo(line + last, parts.length > 1 ? parts[last].length : from + text.length);
@@ -468,7 +505,9 @@ class Page {
         const lines = this.lines(), number = numberAt(lines[line] || "", column);
         if (!number) return;
         const wanted = String(Math.max(0, Math.round(value)));
-        if (wanted !== number.text) this.put(lines.with(line, lines[line].slice(0, number.from) + wanted + lines[line].slice(number.to)), "number " + line);
+        if (wanted !== number.text)
+            this.put(lines.with(line, lines[line].slice(0, number.from) + wanted + lines[line].slice(number.to)),
+                "number " + line);
     }
 
     dragOf(line, column) {
@@ -493,15 +532,19 @@ class Page {
 
     // A query is answered below the text, and nothing is changed; undo, redo and help do what they say.
     async askLine(line) {
-        const word = line.trim().split(/\s+/)[0], deeds = { undo: () => this.undo(), redo: () => this.redo(), help: () => this.deed(() => this.help.open()) };
+        const word = line.trim().split(/\s+/)[0], deeds = { undo: () => this.undo(), redo: () => this.redo(),
+            help: () => this.deed(() => this.help.open()) };
         at("answer").hidden = false;
         at("answer").textContent = "";
         if (deeds[word]) {
-            at("answer").textContent = word === "help" ? "The language is told at the side." : this.history[word === "undo" ? "canUndo" : "canRedo"]() ? word + ": done." : "There is nothing to " + word + ".";
+            at("answer").textContent = word === "help" ? "The language is told at the side."
+                : this.history[word === "undo" ? "canUndo" : "canRedo"]() ? word + ": done."
+                : "There is nothing to " + word + ".";
             return deeds[word]();
         }
         if (!QUERIES.includes(wordOf(line))) {
-            at("answer").textContent = "`" + line.trim().slice(0, 200) + "` is no query, and nothing was changed: a line of the script stands in the text above. Queries are "
+            at("answer").textContent = "`" + line.trim().slice(0, 200)
+                + "` is no query, and nothing was changed: a line of the script stands in the text above. Queries are "
                 + QUERIES.join(", ") + "; undo, redo and help do what they say.";
             return null;
         }
@@ -544,7 +587,8 @@ class Page {
         at("counts").onclick = () => this.tellMeaning(null);
         at("limit").onchange = () => this.setLimit(Number(at("limit").value));
         at("which").querySelector("select").onchange = () => this.wantPicture();
-        at("number_slider").addEventListener("input", () => this.setNumber(this.numbered.line, this.numbered.column, Number(at("number_slider").value)));
+        at("number_slider").addEventListener("input", () =>
+            this.setNumber(this.numbered.line, this.numbered.column, Number(at("number_slider").value)));
         at("ask").addEventListener("submit", event => {
             event.preventDefault();
             if (at("line").value.trim()) this.askLine(at("line").value);
@@ -559,7 +603,8 @@ class Page {
             if (this.isGone && !event.target.closest("#notice, #question, #help, #editor")) this.notice(GONE);
         });
         page.addEventListener("click", event => {
-            for (const menu of page.querySelectorAll(".menu[open]")) if (!menu.contains(event.target)) menu.open = false;
+            for (const menu of page.querySelectorAll(".menu[open]"))
+                if (!menu.contains(event.target)) menu.open = false;
         });
     }
 
@@ -567,11 +612,16 @@ class Page {
         const isControl = event.ctrlKey || event.metaKey, key = event.key.toLowerCase();
         const deeds = {};
         if (isControl) deeds.s = () => this.save();
-        if (isControl && key === " " && at("editor").contains(page.activeElement)) deeds[" "] = () => this.completion.open();
+        if (isControl && key === " " && at("editor").contains(page.activeElement))
+            deeds[" "] = () => this.completion.open();
         if (key === "f1") deeds.f1 = () => this.deed(() => this.help.toggle());
-        if (event.altKey) Object.assign(deeds, { g: () => this.openGallery(), v: () => this.sheet.open(), a: () => this.beside.hold(), p: () => this.levels.play(), arrowup: () => this.stepNumber(1), arrowdown: () => this.stepNumber(-1), enter: () => this.takeMeantHere() });
+        if (event.altKey)
+            Object.assign(deeds, { g: () => this.openGallery(), v: () => this.sheet.open(),
+                a: () => this.beside.hold(), p: () => this.levels.play(), arrowup: () => this.stepNumber(1),
+                arrowdown: () => this.stepNumber(-1), enter: () => this.takeMeantHere() });
         const isInText = at("editor").contains(page.activeElement) || page.activeElement === at("line");
-        if (isControl && !isInText) Object.assign(deeds, { z: () => event.shiftKey ? this.redo() : this.undo(), y: () => this.redo() });
+        if (isControl && !isInText)
+            Object.assign(deeds, { z: () => event.shiftKey ? this.redo() : this.undo(), y: () => this.redo() });
         if (key === "escape") for (const menu of page.querySelectorAll(".menu[open]")) menu.open = false;
         if (!deeds[key]) return;
         event.preventDefault();

@@ -1,4 +1,5 @@
-// The picture, drawn on a canvas from the segments that the program lists, as its language says where a place is drawn. One can come
+// The picture, drawn on a canvas from the segments that the program lists, as its language says where a place is drawn.
+// One can come
 // nearer, move it, and turn it where it is in space.
 
 import { CORNER, MARGIN, drawAll, fitInto, parse, place, widthsOf } from "/web/drawing.js";
@@ -15,7 +16,8 @@ export function isCorner(view) {
 export class Picture {
     // `onTold` is called when something else is shown.
     constructor(canvas, onTold) {
-        Object.assign(this, { canvas, onTold, data: null, asked: null, isAsking: false, large: null, wants: null, lit: [], marked: [], frame: null, beside: null, follows: null });
+        Object.assign(this, { canvas, onTold, data: null, asked: null, isAsking: false, large: null, wants: null,
+            lit: [], marked: [], frame: null, beside: null, follows: null });
         this.plate = new Plate(() => this.draw());
         this.view = { ...CORNER, scale: 1, x: 0, y: 0, isFitted: true };
         new ResizeObserver(() => this.draw()).observe(canvas);
@@ -23,7 +25,8 @@ export class Picture {
         this.listen();
     }
 
-    // Wants the picture of a text, at a level or of a line. Of what was wanted before, only what comes first is still taken. What is given is
+    // Wants the picture of a text, at a level or of a line. Of what was wanted before, only what comes first is still
+    // taken. What is given is
     // kept when all that was wanted has come.
     want(text, level, line) {
         this.wants = { text, level, line, most: this.mostFor(text) };
@@ -48,7 +51,8 @@ export class Picture {
         while (this.wants) {
             const asked = this.wants;
             this.wants = null;
-            const words = Object.entries(asked).filter(([, value]) => value !== null && value !== undefined).map(pair => pair.join("="));
+            const words = Object.entries(asked).filter(([, value]) => value !== null && value !== undefined)
+                .map(pair => pair.join("="));
             try {
                 this.took(asked, parse(await (await get("/picture?" + words.join("&"))).text()));
             } catch (error) {
@@ -80,7 +84,8 @@ export class Picture {
     place() {
         if (this.points) return;
         Object.assign(this, place(this.data, this.view));
-        if (!this.widths || this.widths.data !== this.data) this.widths = { data: this.data, groups: widthsOf(this.data) };
+        if (!this.widths || this.widths.data !== this.data)
+            this.widths = { data: this.data, groups: widthsOf(this.data) };
     }
 
     // The box that is fitted: that of the frame's picture, where there is one of this lattice, or the picture's own.
@@ -88,7 +93,8 @@ export class Picture {
         const { beside, data, view } = this, box = this.boxOfFrame();
         if (!beside || beside.lattice !== data.lattice) return box;
         const other = place(beside, view).box;
-        return [Math.min(box[0], other[0]), Math.min(box[1], other[1]), Math.max(box[2], other[2]), Math.max(box[3], other[3])];
+        return [Math.min(box[0], other[0]), Math.min(box[1], other[1]), Math.max(box[2], other[2]),
+            Math.max(box[3], other[3])];
     }
 
     boxOfFrame() {
@@ -112,8 +118,10 @@ export class Picture {
         requestAnimationFrame(() => {
             this.isDrawing = false;
             const { clientWidth, clientHeight } = this.canvas, dense = globalThis.devicePixelRatio || 1;
-            const width = Math.max(1, Math.round(clientWidth * dense)), height = Math.max(1, Math.round(clientHeight * dense));
-            if (this.canvas.width !== width || this.canvas.height !== height) Object.assign(this.canvas, { width, height });
+            const width = Math.max(1, Math.round(clientWidth * dense)),
+                height = Math.max(1, Math.round(clientHeight * dense));
+            if (this.canvas.width !== width || this.canvas.height !== height)
+                Object.assign(this.canvas, { width, height });
             if (!this.data || !clientWidth) return;
             const begun = performance.now();
             this.place();
@@ -130,14 +138,16 @@ export class Picture {
         });
     }
 
-    // The picture, and over it what is marked and what is lit: pictures, each with the name of its colour and how wide it is at least.
+    // The picture, and over it what is marked and what is lit: pictures, each with the name of its colour and how wide
+    // it is at least.
     paint(pen, sheet) {
         this.plate.draw(pen, this.points, this.widths.groups, this.view, sheet);
         const style = getComputedStyle(this.canvas);
         for (const { data, colour, wide } of [...this.marked, ...this.lit]) {
             pen.strokeStyle = style.getPropertyValue(colour).trim();
             pen.globalAlpha = 0.85;
-            drawAll(pen, place(data, this.view).points, [[Math.max(1, wide / this.view.scale), null]], this.view, sheet);
+            drawAll(pen, place(data, this.view).points, [[Math.max(1, wide / this.view.scale), null]], this.view,
+                sheet);
             pen.globalAlpha = 1;
         }
     }
@@ -159,7 +169,8 @@ export class Picture {
 
     // The colour of lines, and in space what they are shaded by.
     colours() {
-        const ink = getComputedStyle(this.canvas).color, ground = getComputedStyle(globalThis.document.body).backgroundColor;
+        const ink = getComputedStyle(this.canvas).color,
+            ground = getComputedStyle(globalThis.document.body).backgroundColor;
         return { colour: ink, shade: this.isInSpace() ? { ink, ground } : null };
     }
 
@@ -204,7 +215,8 @@ export class Picture {
     // Comes nearer by a factor, with this place of the canvas staying where it is.
     near(factor, x = this.canvas.clientWidth / 2, y = this.canvas.clientHeight / 2) {
         const { view } = this, scale = Math.min(1e4, Math.max(1e-9, view.scale * factor));
-        Object.assign(view, { x: x - (x - view.x) * scale / view.scale, y: y - (y - view.y) * scale / view.scale, scale, isFitted: false });
+        Object.assign(view, { x: x - (x - view.x) * scale / view.scale, y: y - (y - view.y) * scale / view.scale,
+            scale, isFitted: false });
         this.draw();
     }
 
@@ -214,9 +226,11 @@ export class Picture {
             this.view.turn += turn;
             this.view.tilt = Math.max(-Math.PI / 2, Math.min(Math.PI / 2, this.view.tilt + tilt));
         } else {
-            const { view } = this, x = this.canvas.clientWidth / 2, y = this.canvas.clientHeight / 2, along = Math.cos(turn), across = Math.sin(turn);
+            const { view } = this, x = this.canvas.clientWidth / 2, y = this.canvas.clientHeight / 2,
+                along = Math.cos(turn), across = Math.sin(turn);
             const right = view.x - x, down = view.y - y;
-            Object.assign(view, { spin: view.spin + turn, x: x + along * right - across * down, y: y + across * right + along * down });
+            Object.assign(view, { spin: view.spin + turn, x: x + along * right - across * down,
+                y: y + across * right + along * down });
         }
         this.points = null;
         this.draw();
@@ -234,7 +248,8 @@ export class Picture {
             canvas.setPointerCapture(event.pointerId);
         });
         canvas.addEventListener("pointermove", event => this.pull(held, event));
-        for (const kind of ["pointerup", "pointercancel"]) canvas.addEventListener(kind, event => held.delete(event.pointerId));
+        for (const kind of ["pointerup", "pointercancel"])
+            canvas.addEventListener(kind, event => held.delete(event.pointerId));
     }
 
     // One finger or the mouse moves the picture, or turns it in space, where Shift moves it; two fingers come nearer.
@@ -245,7 +260,8 @@ export class Picture {
         const other = [...held.values()].find(each => each.pointerId !== event.pointerId);
         held.set(event.pointerId, event);
         if (other) {
-            const distance = each => Math.max(1, Math.hypot(each.clientX - other.clientX, each.clientY - other.clientY));
+            const distance = each => Math.max(1, Math.hypot(each.clientX - other.clientX,
+                each.clientY - other.clientY));
             this.near(distance(event) / distance(before), event.offsetX, event.offsetY);
         } else if (this.isInSpace() && !event.shiftKey) {
             // What is near follows the mouse.

@@ -1,4 +1,5 @@
-// A kept bitmap of a large picture, its plate. While the picture is moved the plate is moved, and a worker draws the next one; what is turned
+// A kept bitmap of a large picture, its plate. While the picture is moved the plate is moved, and a worker draws the
+// next one; what is turned
 // in space is drawn in part meanwhile. A small picture, or one in a browser without such workers, is drawn at once.
 
 import { strokesOf } from "/web/shaded.js";
@@ -12,7 +13,8 @@ const REST = 120, AGAIN = 400;
 export class Plate {
     // `onDrawn` is called when a plate came.
     constructor(onDrawn) {
-        Object.assign(this, { onDrawn, worker: null, bitmap: null, asked: null, shown: null, points: null, data: null, id: 0, timer: null, sent: 0 });
+        Object.assign(this, { onDrawn, worker: null, bitmap: null, asked: null, shown: null, points: null, data: null,
+            id: 0, timer: null, sent: 0 });
         try {
             if (globalThis.OffscreenCanvas) this.worker = new Worker("/web/plate_worker.js", { type: "module" });
         } catch (error) {
@@ -38,7 +40,8 @@ export class Plate {
         Object.assign(this, { bitmap: null, shown: null, asked: null });
     }
 
-    // Draws points by a pen whose sheet is this wide and high, of this colour and for this picture. Of another picture the plate stays where it
+    // Draws points by a pen whose sheet is this wide and high, of this colour and for this picture. Of another picture
+    // the plate stays where it
     // is as long as the view is the same, until the next one comes.
     draw(pen, points, widths, view, sheet) {
         const count = points.length / 4;
@@ -56,7 +59,8 @@ export class Plate {
     // Whether the plate that is there, or the one that is being drawn, is of this view and sheet.
     isWanted(view, sheet) {
         const last = this.asked || this.shown;
-        return Boolean(last) && last.data === sheet.data && last.colour === sheet.colour && last.wide === sheet.width && last.high === sheet.height && last.dense === sheet.dense
+        return Boolean(last) && last.data === sheet.data && last.colour === sheet.colour && last.wide === sheet.width
+            && last.high === sheet.height && last.dense === sheet.dense
             && this.isAt(last, view);
     }
 
@@ -75,9 +79,11 @@ export class Plate {
     send(points, widths, view, sheet) {
         this.timer = null;
         const past = [Math.round(PAST * sheet.width), Math.round(PAST * sheet.height)];
-        const told = { id: ++this.id, view: { ...view, x: view.x + past[0], y: view.y + past[1] }, width: sheet.width + 2 * past[0],
+        const told = { id: ++this.id, view: { ...view, x: view.x + past[0], y: view.y + past[1] },
+            width: sheet.width + 2 * past[0],
             height: sheet.height + 2 * past[1], dense: sheet.dense, colour: sheet.colour, shade: sheet.shade };
-        this.asked = { id: this.id, at: view, past, wide: sheet.width, high: sheet.height, dense: sheet.dense, colour: sheet.colour, data: sheet.data };
+        this.asked = { id: this.id, at: view, past, wide: sheet.width, high: sheet.height, dense: sheet.dense,
+            colour: sheet.colour, data: sheet.data };
         this.sent = performance.now();
         if (points !== this.points) Object.assign(told, { points, widths });
         if (sheet.shade && sheet.data !== this.data) told.data = { places: sheet.data.places, count: sheet.data.count };
@@ -95,7 +101,8 @@ export class Plate {
         const { at, past, wide, high } = this.shown, factor = view.scale / at.scale, turn = view.spin - at.spin;
         const along = factor * Math.cos(turn), across = factor * Math.sin(turn);
         pen.save();
-        pen.transform(along, across, -across, along, view.x - along * at.x + across * at.y, view.y - across * at.x - along * at.y);
+        pen.transform(along, across, -across, along, view.x - along * at.x + across * at.y,
+            view.y - across * at.x - along * at.y);
         // A plate that lies where it was drawn is put point by point.
         pen.imageSmoothingEnabled = factor !== 1 || turn !== 0;
         pen.drawImage(this.bitmap, -past[0], -past[1], wide + 2 * past[0], high + 2 * past[1]);

@@ -1,5 +1,7 @@
-// A picture in space, shaded: what is far is paler and lies behind, and each line is a tube that a light above falls on. A lattice has three
-// directions, so all lines of one direction at about one depth are stroked together, and a turn costs little more than without shades.
+// A picture in space, shaded: what is far is paler and lies behind, and each line is a tube that a light above falls
+// on. A lattice has three
+// directions, so all lines of one direction at about one depth are stroked together, and a turn costs little more than
+// without shades.
 
 import { strokes } from "/web/drawing.js";
 
@@ -39,7 +41,8 @@ function depthsOf(places, count, near) {
     const depths = new Float64Array(count);
     let least = Infinity, most = -Infinity;
     for (let at = 0, from = 0; at < count; at++, from += 7) {
-        const depth = near[0] * (places[from] + places[from + 3]) + near[1] * (places[from + 1] + places[from + 4]) + near[2] * (places[from + 2] + places[from + 5]);
+        const depth = near[0] * (places[from] + places[from + 3]) + near[1] * (places[from + 1] + places[from + 4])
+            + near[2] * (places[from + 2] + places[from + 5]);
         depths[at] = depth;
         least = Math.min(least, depth);
         most = Math.max(most, depth);
@@ -51,9 +54,11 @@ function axisOf(places, from) {
     return places[from] !== places[from + 3] ? 0 : places[from + 1] !== places[from + 4] ? 1 : 2;
 }
 
-// The lines of each layer, the farthest first: for each direction and width its paths. `skips` lets only each so-manieth line be drawn.
+// The lines of each layer, the farthest first: for each direction and width its paths. `skips` lets only each
+// so-manieth line be drawn.
 function layersOf({ places, count }, points, view, { near, skips }) {
-    const { depths, least, range } = depthsOf(places, count, near), layers = Array.from({ length: LAYERS }, () => new Map());
+    const { depths, least, range } = depthsOf(places, count, near),
+        layers = Array.from({ length: LAYERS }, () => new Map());
     for (let at = 0; at < count; at += skips) {
         const layer = layers[Math.min(LAYERS - 1, Math.floor(LAYERS * (depths[at] - least) / range))];
         const axis = axisOf(places, 7 * at), width = places[7 * at + 6], key = 3 * width + axis;
@@ -70,19 +75,23 @@ function layersOf({ places, count }, points, view, { near, skips }) {
 // The colour of a tube in a layer that is so far, by its light. What is lit is brighter, on a dark ground too.
 function colouring(far, ink, ground) {
     const isDark = bright(ground) < bright(ink), dark = isDark ? ground : ink, light = isDark ? ink : ground;
-    return lit => asColour(mixed(mixed(dark, light, isDark ? 0.15 + 0.8 * lit * lit : 0.5 * lit * lit), ground, PALE * far));
+    return lit => asColour(mixed(mixed(dark, light, isDark ? 0.15 + 0.8 * lit * lit : 0.5 * lit * lit), ground,
+        PALE * far));
 }
 
-// Draws a picture in space, as a generator that gives way after each path; `points` are the ends of its lines in the plane, as `view` turns them,
+// Draws a picture in space, as a generator that gives way after each path; `points` are the ends of its lines in the
+// plane, as `view` turns them,
 // and before it is moved.
 function* shades(pen, points, view, { data, shade, skips = 1 }) {
-    const axes = axesOf(view), lights = lightsOf(axes), layers = layersOf(data, points, view, { near: axes.near, skips });
+    const axes = axesOf(view), lights = lightsOf(axes),
+        layers = layersOf(data, points, view, { near: axes.near, skips });
     const ink = channels(shade.ink), ground = channels(shade.ground), hasTones = data.count < TONES_BELOW;
     for (let number = 0; number < LAYERS; number++) {
         const colour = colouring(1 - (number + 0.5) / LAYERS, ink, ground);
         for (const [part, share] of hasTones ? TONES : TONES.slice(-1)) {
             pen.lineCap = hasTones ? "round" : "butt";
-            for (const { axis, width, paths } of layers[number].values()) yield* tone(pen, paths, width * view.scale, hasTones ? part : 1, colour(share * lights[axis]));
+            for (const { axis, width, paths } of layers[number].values())
+                yield* tone(pen, paths, width * view.scale, hasTones ? part : 1, colour(share * lights[axis]));
         }
     }
 }

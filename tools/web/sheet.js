@@ -1,4 +1,5 @@
-// Variants of the script beside each other: for seeds, depths, or a number of the script, or two of these as a grid. Each is drawn by a program
+// Variants of the script beside each other: for seeds, depths, or a number of the script, or two of these as a grid.
+// Each is drawn by a program
 // of its own, and a click takes its values into the script.
 
 import { CORNER, drawAll, fitInto, parse, place, widthsOf } from "/web/drawing.js";
@@ -16,13 +17,18 @@ const MOST_CHOICES = 300;
 
 // All that can vary, each with its value now: the seed, the depth, and the numbers of the lines.
 function choices(lines) {
-    const seed = lines.findLast(line => wordOf(line) === "seed"), seeded = seed ? Number(/\d+/.exec(seed)?.[0] || 0) : 0;
-    const found = [{ kind: "seed", value: seeded, text: "the seed" }, { kind: "depth", value: depthOf(lines), text: "the depth" }];
+    const seed = lines.findLast(line => wordOf(line) === "seed"), seeded = seed ? Number(/\d+/.exec(seed)?.[0] || 0)
+        : 0;
+    const found = [{ kind: "seed", value: seeded, text: "the seed" },
+        { kind: "depth", value: depthOf(lines), text: "the depth" }];
     for (let line = 0; line < lines.length && found.length < MOST_CHOICES; line++) {
         if (["seed", "depth"].includes(wordOf(lines[line]))) continue;
         numbersOf(lines[line]).forEach((number, place) => {
-            const from = Math.max(0, number.from - WIDEST_SHOWN / 2), front = lines[line].slice(from, number.from), rest = lines[line].slice(number.to, number.to + WIDEST_SHOWN / 2);
-            found.push({ kind: "number", line, place, value: Number(number.text), text: "line " + (line + 1) + ": " + (from ? ".." : "") + front + "\u2039" + number.text + "\u203a" + rest, column: number.from, end: number.to });
+            const from = Math.max(0, number.from - WIDEST_SHOWN / 2), front = lines[line].slice(from, number.from),
+                rest = lines[line].slice(number.to, number.to + WIDEST_SHOWN / 2);
+            found.push({ kind: "number", line, place, value: Number(number.text),
+                text: "line " + (line + 1) + ": " + (from ? ".." : "") + front + "\u2039" + number.text + "\u203a"
+                + rest, column: number.from, end: number.to });
         });
     }
     return found;
@@ -32,7 +38,8 @@ export class Sheet {
     // `desk` has the text; `onTaken` gets the lines of a variant that was chosen.
     constructor({ desk, lines, caret, onTaken }) {
         Object.assign(this, { desk, lines, caret, onTaken, number: 0, choices: [] });
-        this.sides = [...at("sheet_form").querySelectorAll("fieldset")].map(side => ({ select: side.querySelector("select"), inputs: [...side.querySelectorAll("input")] }));
+        this.sides = [...at("sheet_form").querySelectorAll("fieldset")].map(side =>
+            ({ select: side.querySelector("select"), inputs: [...side.querySelectorAll("input")] }));
         at("close_sheet").addEventListener("click", () => at("sheet").close());
         at("sheet").addEventListener("close", () => this.end());
         at("sheet_form").addEventListener("submit", event => {
@@ -46,7 +53,8 @@ export class Sheet {
     open() {
         if (at("sheet").open) return;
         this.choices = choices(this.lines());
-        const { line, column } = this.caret(), chosen = this.choices.findIndex(choice => choice.line === line && choice.column <= column && column <= choice.end);
+        const { line, column } = this.caret(), chosen = this.choices.findIndex(choice => choice.line === line
+            && choice.column <= column && column <= choice.end);
         const options = () => this.choices.map((choice, number) => new Option(choice.text, number));
         this.sides[0].select.replaceChildren(...options());
         this.sides[1].select.replaceChildren(new Option("nothing more", ""), ...options());
@@ -63,12 +71,14 @@ export class Sheet {
         if (select.value === "") return;
         const { kind, value } = this.choices[Number(select.value)], step = Math.max(1, Math.round(value / 8));
         const from = kind === "seed" ? value : kind === "depth" ? 0 : Math.max(0, value - 3 * step);
-        [from, kind === "depth" ? value : from + (kind === "seed" ? 7 : 7 * step), kind === "number" ? step : 1].forEach((number, place) => { inputs[place].value = number; });
+        [from, kind === "depth" ? value : from + (kind === "seed" ? 7 : 7 * step), kind === "number" ? step
+            : 1].forEach((number, place) => { inputs[place].value = number; });
     }
 
     axes() {
         return this.sides.filter(side => side.select.value !== "").map(({ select, inputs }) => {
-            const { kind, line, place } = this.choices[Number(select.value)], [from, to, step] = inputs.map(input => Number(input.value));
+            const { kind, line, place } = this.choices[Number(select.value)],
+                [from, to, step] = inputs.map(input => Number(input.value));
             return { kind, line, place, from, to, step };
         });
     }
@@ -89,7 +99,8 @@ export class Sheet {
     }
 
     cellOf({ told, first, removed, lines }) {
-        const item = page.createElement("li"), button = page.createElement("button"), canvas = page.createElement("canvas");
+        const item = page.createElement("li"), button = page.createElement("button"),
+            canvas = page.createElement("canvas");
         const name = page.createElement("strong"), about = page.createElement("small");
         name.textContent = told.join(", ");
         about.textContent = "..";
@@ -127,7 +138,8 @@ export class Sheet {
     }
 
     show({ canvas, about }, data, asked, all) {
-        about.textContent = data.refusal || numeral(asked) + " of " + numeral(all) + " asked anew; " + numeral(data.count) + (data.count === 1 ? " line" : " lines");
+        about.textContent = data.refusal || numeral(asked) + " of " + numeral(all) + " asked anew; "
+            + numeral(data.count) + (data.count === 1 ? " line" : " lines");
         Object.assign(about.dataset, { asked, all, count: data.count });
         const dense = globalThis.devicePixelRatio || 1, width = canvas.clientWidth, height = canvas.clientHeight;
         Object.assign(canvas, { width: Math.max(1, width * dense), height: Math.max(1, height * dense) });

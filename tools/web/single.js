@@ -1,17 +1,22 @@
 // The player of a file that holds its script, its replies and its pictures. It asks nothing of anyone.
 (() => {
-    const at = id => document.getElementById(id), held = JSON.parse(at("lsys").textContent), last = held.levels.length - 1;
-    const parsed = [], level = number => parsed[number] = parsed[number] || parse(held.lattice + " " + number + "\n" + held.levels[number]);
+    const at = id => document.getElementById(id), held = JSON.parse(at("lsys").textContent),
+        last = held.levels.length - 1;
+    const parsed = [], level = number => parsed[number] = parsed[number]
+        || parse(held.lattice + " " + number + "\n" + held.levels[number]);
     let seen = last, timer = null;
 
     function draw() {
-        const canvas = at("picture"), dense = devicePixelRatio || 1, { clientWidth: width, clientHeight: height } = canvas, data = level(seen);
+        const canvas = at("picture"), dense = devicePixelRatio || 1,
+            { clientWidth: width, clientHeight: height } = canvas, data = level(seen);
         Object.assign(canvas, { width: Math.round(width * dense), height: Math.round(height * dense) });
         const pen = canvas.getContext("2d");
         pen.setTransform(dense, 0, 0, dense, 0, 0);
         pen.strokeStyle = getComputedStyle(canvas).color;
-        drawAll(pen, place(data, CORNER).points, widthsOf(data), fitInto(place(level(last), CORNER).box, width, height), { width, height });
-        const told = data.count.toLocaleString("en") + (data.count === 1 ? " line" : " lines") + ", level " + seen + " of " + last;
+        drawAll(pen, place(data, CORNER).points, widthsOf(data),
+            fitInto(place(level(last), CORNER).box, width, height), { width, height });
+        const told = data.count.toLocaleString("en") + (data.count === 1 ? " line" : " lines") + ", level " + seen
+            + " of " + last;
         canvas.setAttribute("aria-label", told);
         at("told").textContent = told;
         at("level").value = seen;

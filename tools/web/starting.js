@@ -20,13 +20,15 @@ export const SNIPPETS = [
     { name: "parameters", text: "production p: A(x) : x > 0 => F(x)A(x-1)" },
 ];
 
-// A file's text. A mark at its head stays, of which the server tells; a byte that is none of a sign is told by half a pair, as from the server.
+// A file's text. A mark at its head stays, of which the server tells; a byte that is none of a sign is told by half a
+// pair, as from the server.
 async function textOf(file) {
     const bytes = new Uint8Array(await file.arrayBuffer());
     try {
         return new TextDecoder("utf-8", { fatal: true, ignoreBOM: true }).decode(bytes);
     } catch (error) {
-        return Array.from(bytes, byte => byte < 128 ? String.fromCharCode(byte) : String.fromCharCode(0xDC00 + byte)).join("");
+        return Array.from(bytes, byte => byte < 128 ? String.fromCharCode(byte) : String.fromCharCode(0xDC00 + byte))
+            .join("");
     }
 }
 
