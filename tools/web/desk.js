@@ -22,7 +22,8 @@ async function answerOf(answer) {
 }
 
 // What each control tells where the server can't be reached.
-export const GONE = "tools/look has ended or can't be reached. This page's text is still here, and Export has it as a file.";
+export const GONE = "tools/look has ended or can't be reached. This page's text is still here, and Export has it as a "
+    + "file.";
 
 // What is on its way and takes long: `Busy.onLong` is told of it after half a second, with what the server works at,
 // and again until it ends.
