@@ -77,7 +77,8 @@ export function greatestDepth(lines) {
     return lines.some(line => /^[ \t]*version[ \t]+0*2[ \t]*$/.test(line)) ? 256 : 64;
 }
 
-const COLUMN = /^refused (?:syntax (?:byte|token|deep)|name|duplicate|mixed|label|table|level|many|version|place) (\d+)$/;
+const COLUMN =
+    /^refused (?:syntax (?:byte|token|deep)|name|duplicate|mixed|label|table|level|many|version|place) (\d+)$/;
 
 // The column of bytes that a refusal names, from 1, or 0.
 export function columnOf(reply) {

@@ -4,15 +4,19 @@ export const TEMPLATES = [
     { name: "Empty", script: "" },
     { name: "Koch curve", script: "axiom F-F-F-F\nproduction f: F => F-F+F+FF-F-F+F\ndepth 2\nsvg\n" },
     { name: "Bracketed plant",
-        script: "lattice hexagonal\naxiom !(2)+F\nproduction f: F => F[+F]F[-F][F]\nhom up: F => F+F-\ndepth 4\nsvg\n" },
+        script: "lattice hexagonal\naxiom !(2)+F\nproduction f: F => F[+F]F[-F][F]\nhom up: F => F+F-\n"
+            + "depth 4\nsvg\n" },
     { name: "Stochastic plant",
-        script: "lattice hexagonal\naxiom +F\nproduction left: F @ 1 => F[+F]F\nproduction right: F @ 1 => F[-F]F\nseed 1\ndepth 4\nsvg\n" },
+        script: "lattice hexagonal\naxiom +F\nproduction left: F @ 1 => F[+F]F\n"
+            + "production right: F @ 1 => F[-F]F\nseed 1\ndepth 4\nsvg\n" },
     { name: "Signal by contexts",
         script: "axiom F_b[+F_a]F_a[-F_a]F_a\nignore +-\nproduction s: F_b < F_a => F_b\ndepth 2\nstring\nsvg\n" },
     { name: "Tables in a schedule",
-        script: "axiom F\nproduction a: F => F+F\nproduction winter w: F => F-F\nschedule main main winter\ndepth 4\nsvg\n" },
+        script: "axiom F\nproduction a: F => F+F\nproduction winter w: F => F-F\nschedule main main winter\n"
+            + "depth 4\nsvg\n" },
     { name: "Homomorphism",
-        script: "axiom A\nproduction a: A => B+A\nproduction b: B => A-B\nhom ha: A => F\nhom hb: B => F\ndepth 5\nsvg\n" },
+        script: "axiom A\nproduction a: A => B+A\nproduction b: B => A-B\nhom ha: A => F\nhom hb: B => F\n"
+            + "depth 5\nsvg\n" },
 ];
 
 // Pieces of a script, by what they are.
