@@ -207,7 +207,7 @@ def public_clauses(crates: Crates, names: Iterable[str]) -> Iterator[tuple[str, 
 def main() -> int:
     if set(sys.argv[1:]) - {"--unnamed"}:
         print(__doc__)
-        return 2
+        return 0 if set(sys.argv[1:]) & {"-h", "--help"} else 2
     crates = Crates()
     rows, wrong = rows_of(text_of(PAGE))
     for row in rows:
