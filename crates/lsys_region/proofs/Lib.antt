@@ -1,6 +1,8 @@
 pub mod ListLemmas
 pub mod RoomLemmas
+pub mod PackedLemmas
 pub mod ChainLemmas
+pub mod ClassedLemmas
 pub mod TableLemmas
 pub mod LayoutLemmas
 pub mod CountLemmas

@@ -178,11 +178,12 @@ module _ {T : Type 0} where
   filled_by_room (x ∷ list) class roomy empty = cc
 
   -- a list that was placed in a free part
-  pub IsPlaced-again : {parts parts' : List SizedPart} {cells cells' list : List T} {spare n class start len : ℕ} {pool : Pool T} → pool_of parts cells spare ≡ pool → LieApart parts (length cells) → TakesPart parts parts' n class (length list) → IsPartSpan parts' n start len → list_room list ≡ 2 ^ class → IsWritten cells cells' start list → IsPlaced pool (pool_of parts' cells' spare) (Some n) list
-  IsPlaced-again {parts} {parts'} {cells} {cells'} {list} {spare} {n} {class} {start} {len} {pool} seen lie taken span roomy written =
+  pub IsPlaced-again : {parts parts' : List SizedPart} {cells cells' list : List T} {spare n class start len : ℕ} {pool : Pool T} {run : Option ℕ} → run ≡ Some n → pool_of parts cells spare ≡ pool → LieApart parts (length cells) → TakesPart parts parts' n class (length list) → IsPartSpan parts' n start len → list_room list ≡ 2 ^ class → IsWritten cells cells' start list → IsPlaced pool (pool_of parts' cells' spare) run list
+  IsPlaced-again {parts} {parts'} {cells} {cells'} {list} {spare} {n} {class} {start} {len} {pool} {run} named seen lie taken span roomy written =
       let in_place = placed_again parts parts' cells cells' spare spare n class start span.class len list lie taken span.here roomy written in
       let counts = taken_counts parts parts' cells cells' spare spare n class (length list) (list_room list) taken roomy in
-      subst (λ (old : Pool T). IsPlaced old (pool_of parts' cells' spare) (Some n) list) seen (record {
+      subst (λ r. IsPlaced pool (pool_of parts' cells' spare) r list) (sym named)
+      (subst (λ (old : Pool T). IsPlaced old (pool_of parts' cells' spare) (Some n) list) seen (record {
         placed = in_place.placed;
         fresh = (filled_by_room list class roomy, in_place.fresh);
         others = OthersStay-numbers (pool_of parts cells spare) (pool_of parts' cells' spare) n in_place.others;
@@ -190,11 +191,11 @@ module _ {T : Type 0} where
         grows = λ none. absurd (omega (arith, counts.0));
         other_rooms = counts.1;
         spare = omega arith;
-      })
+      }))
 
   -- a list that was placed in a new part at the end of the vector
-  pub IsPlaced-new : {parts parts' : List SizedPart} {cells cells' list : List T} {spare n class start room : ℕ} {pool : Pool T} → pool_of parts cells spare ≡ pool → LieApart parts (length cells) → AllTaken parts class → start ≡ length cells → AddsPart parts parts' n start class (length list) → IsAppended cells cells' list room → room ≡ 2 ^ class → room ≡ list_room list → list_room list ≤ pool.spare → IsPlaced pool (pool_of parts' cells' (spare - room)) (Some n) list
-  IsPlaced-new {parts} {parts'} {cells} {cells'} {list} {spare} {n} {class} {start} {room} {pool} seen lie all begin added appended power roomy enough =
+  pub IsPlaced-new : {parts parts' : List SizedPart} {cells cells' list : List T} {spare n class start room : ℕ} {pool : Pool T} {run : Option ℕ} → run ≡ Some n → pool_of parts cells spare ≡ pool → LieApart parts (length cells) → AllTaken parts class → start ≡ length cells → AddsPart parts parts' n start class (length list) → IsAppended cells cells' list room → room ≡ 2 ^ class → room ≡ list_room list → list_room list ≤ pool.spare → IsPlaced pool (pool_of parts' cells' (spare - room)) run list
+  IsPlaced-new {parts} {parts'} {cells} {cells'} {list} {spare} {n} {class} {start} {room} {pool} {run} named seen lie all begin added appended power roomy enough =
       let filling = appended.filling in
       let left = spare - room in
       let in_place = placed_new parts cells filling spare left class list lie in
@@ -218,34 +219,39 @@ module _ {T : Type 0} where
         other_rooms = λ other apart. kept other;
         spare = omega arith;
       } in
-      subst (λ (o : Pool T). IsPlaced o (pool_of parts' cells' left) (Some n) list) seen
+      subst (λ r. IsPlaced pool (pool_of parts' cells' left) r list) (sym named)
+      (subst (λ (o : Pool T). IsPlaced o (pool_of parts' cells' left) (Some n) list) seen
       (subst (λ (p : Pool T). IsPlaced old p (Some n) list) same
-      (subst (λ k. IsPlaced old new (Some k) list) (sym added.next) whole))
+      (subst (λ k. IsPlaced old new (Some k) list) (sym added.next) whole)))
 
-pub IsSound-take : {parts parts' : List SizedPart} {size size' spare places places' numbers numbers' n class len : ℕ} → IsSoundLayout parts size spare places numbers → TakesPart parts parts' n class len → room_of len ≡ 2 ^ class → size' ≡ size → places ≤ places' → numbers ≤ numbers' → IsSoundLayout parts' size' spare places' numbers'
-IsSound-take {parts} {parts'} {size} {size'} {spare} {places} {places'} {numbers} {numbers'} {n} {class} {len} sound taken roomy same wide many =
+pub IsSound-take : {parts parts' : List SizedPart} {size size' spare places places' numbers numbers' end end' n class len : ℕ} → IsSoundLayout parts size spare places numbers end → TakesPart parts parts' n class len → room_of len ≡ 2 ^ class → size' ≡ size → places ≤ places' → numbers ≤ numbers' → end' ≡ end → IsSoundLayout parts' size' spare places' numbers' end'
+IsSound-take {parts} {parts'} {size} {size'} {spare} {places} {places'} {numbers} {numbers'} {end} {end'} {n} {class} {len} sound taken roomy same wide many ended =
     let apart = AreApart-set parts size n taken.start class None (Some len) taken.was_free (λ l is. ap room_of (sym (same_Some len l is)) ∙ roomy) sound.lie in
     let lengths : length parts' ≡ length parts = ap length taken.changed ∙ length-set parts n _ in
     record {
       lie = subst (λ s. LieApart parts' s) (sym same) (subst (λ (ps : List SizedPart). LieApart ps size) (sym taken.changed) apart);
       places_left = omega (arith, sound.places_left);
       numbers_left = omega (arith, sound.numbers_left);
+      few = omega (arith, sound.few);
+      ends = ended ∙ sound.ends ∙ sym same;
     }
 
-pub IsSound-free : {parts parts' : List SizedPart} {size spare places numbers numbers' n : ℕ} → IsSoundLayout parts size spare places numbers → FreesPart parts parts' n → numbers ≤ numbers' → IsSoundLayout parts' size spare places numbers'
-IsSound-free {parts} {parts'} {size} {spare} {places} {numbers} {numbers'} {n} sound frees many =
+pub IsSound-free : {parts parts' : List SizedPart} {size spare places numbers numbers' end end' n : ℕ} → IsSoundLayout parts size spare places numbers end → FreesPart parts parts' n → numbers ≤ numbers' → end' ≡ end → IsSoundLayout parts' size spare places numbers' end'
+IsSound-free {parts} {parts'} {size} {spare} {places} {numbers} {numbers'} {end} {end'} {n} sound frees many ended =
     let apart = AreApart-set parts size n frees.start frees.class (Some frees.len) None frees.was_taken (λ l is. absurd (none-some l is)) sound.lie in
     let lengths : length parts' ≡ length parts = ap length frees.changed ∙ length-set parts n _ in
     record {
       lie = subst (λ (ps : List SizedPart). LieApart ps size) (sym frees.changed) apart;
       places_left = sound.places_left;
       numbers_left = omega (arith, sound.numbers_left);
+      few = sound.few;
+      ends = ended ∙ sound.ends;
     }
 
-pub IsSound-push : {T : Type 0} {parts parts' : List SizedPart} {cells cells' list : List T} {spare n class start room : ℕ} {pool : Pool T} (places places' numbers numbers' : ℕ) → pool_of parts cells spare ≡ pool → IsSoundLayout parts (length cells) spare places numbers → start ≡ length cells → AddsPart parts parts' n start class (length list) → IsAppended cells cells' list room → room ≡ 2 ^ class → room ≡ list_room list → list_room list ≤ pool.spare → places ≤ places' → numbers ≤ numbers' → IsSoundLayout parts' (length cells') (spare - room) places' numbers'
-IsSound-push {T} {parts} {parts'} {cells} {cells'} {list} {spare} {n} {class} {start} {room} {pool} places places' numbers numbers' seen sound begin added appended power roomy enough wide many =
+pub IsSound-push : {T : Type 0} {parts parts' : List SizedPart} {cells cells' list : List T} {spare end end' n class room : ℕ} {pool : Pool T} (places places' numbers numbers' : ℕ) → pool_of parts cells spare ≡ pool → IsSoundLayout parts (length cells) spare places numbers end → AddsPart parts parts' n end class (length list) → end' ≡ end + room → IsAppended cells cells' list room → room ≡ 2 ^ class → room ≡ list_room list → list_room list ≤ pool.spare → places ≤ places' → numbers ≤ numbers' → IsSoundLayout parts' (length cells') (spare - room) places' numbers' end'
+IsSound-push {T} {parts} {parts'} {cells} {cells'} {list} {spare} {end} {end'} {n} {class} {room} {pool} places places' numbers numbers' seen sound added ended appended power roomy enough wide many =
     let part = part_at (length cells) class (Some (length list)) in
-    let all : parts ++ part ∷ [] ≡ parts' = ap (λ at. parts ++ part_at at class (Some (length list)) ∷ []) (sym begin) ∙ sym added.changed in
+    let all : parts ++ part ∷ [] ≡ parts' = ap (λ at. parts ++ part_at at class (Some (length list)) ∷ []) (sym sound.ends) ∙ sym added.changed in
     let counted : length parts' ≡ length parts + 1 = ap length (sym all) ∙ length_push parts part in
     let spare_is : spare ≡ pool.spare = ap (λ (p : Pool T). p.spare) seen in
     let grown : length cells + 2 ^ class ≡ length cells' = omega (arith, ap length appended.items, length-append (cells ++ list) appended.filling, length-append cells list, appended.filled) in
@@ -253,6 +259,8 @@ IsSound-push {T} {parts} {parts'} {cells} {cells'} {list} {spare} {n} {class} {s
       lie = subst (λ s. LieApart parts' s) grown (subst (λ (ps : List SizedPart). LieApart ps (length cells + 2 ^ class)) all (AreApart-push parts (length cells) class (length list) (sym roomy ∙ power) sound.lie));
       places_left = omega (arith, sound.places_left);
       numbers_left = omega (arith, sound.numbers_left, pow_pos class);
+      few = omega (arith, sound.few);
+      ends = omega (arith, sound.ends);
     }
 
 -- the part that was taken

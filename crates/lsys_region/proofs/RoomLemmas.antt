@@ -33,7 +33,7 @@ exponent_from_first zero from len bound =
 exponent_from_first (suc tries) from len bound =
     first_step tries from len (leb len (2 ^ from)) refl (exponent_from_first tries (from + 1) len) bound
 
-below_pow : (n : ℕ) → n < 2 ^ n
+pub below_pow : (n : ℕ) → n < 2 ^ n
 below_pow zero = omega (arith, pow_pos 0)
 below_pow (suc n) = omega (arith, below_pow n, pow_below n (suc n) (omega arith))
 
@@ -75,6 +75,12 @@ same_exponent m n same =
 pub room_fits : (len : ℕ) → len ≤ room_of len
 room_fits zero = omega arith
 room_fits (suc n) = (room_of_least (suc n) (omega arith)).fits
+
+-- a list whose room is a power of two is not empty
+pub room_filled : (len exponent : ℕ) → room_of len ≡ 2 ^ exponent → 0 < len
+unfolding room_of
+room_filled zero exponent roomy = omega (arith, pow_pos exponent)
+room_filled (suc n) exponent roomy = omega arith
 
 -- a list whose room is below 2 ^ 64 is no longer than 2 ^ 63
 pub room_bounds : (len : ℕ) → room_of len < 2 ^ 64 → len ≤ 2 ^ 63

@@ -24,14 +24,24 @@ pub record IsAppended {T : Type 0} (old new list : List T) (room : ℕ) : Type 0
   pub items : new ≡ old ++ list ++ filling
   pub filled : length list + length filling ≡ room
 
+-- each list has the room of its part
+abbrev pub HaveRooms : List SizedPart → Type 0
+HaveRooms parts = (n : ℕ) (part : SizedPart) (len : ℕ) → slice_get parts n ≡ Some part → part.filled ≡ Some len → room_of len ≡ 2 ^ part.class
+
 -- the parts lie within so many places, in order and apart, and each list has the room of its part
 pub record LieApart (parts : List SizedPart) (size : ℕ) : Type 0 where
   pub inside : (n : ℕ) (part : SizedPart) → slice_get parts n ≡ Some part → part.start + 2 ^ part.class ≤ size
   pub apart : (m n : ℕ) (first second : SizedPart) → m < n → slice_get parts m ≡ Some first → slice_get parts n ≡ Some second → first.start + 2 ^ first.class ≤ second.start
-  pub roomy : (n : ℕ) (part : SizedPart) (len : ℕ) → slice_get parts n ≡ Some part → part.filled ≡ Some len → room_of len ≡ 2 ^ part.class
+  pub roomy : HaveRooms parts
 
--- the slots are apart, and there is capacity for the spare
-pub record IsSoundLayout (parts : List SizedPart) (size spare places numbers : ℕ) : Type 0 where
+-- how many places a vector has at most, so that a number of a part and the length of a list take 31 bits
+abbrev pub most_places : ℕ
+most_places = 0x7FFF_FFFF
+
+-- the slots are apart, the last one ends where the vector does, and there is capacity for the spare
+pub record IsSoundLayout (parts : List SizedPart) (size spare places numbers end : ℕ) : Type 0 where
   pub lie : LieApart parts size
   pub places_left : size + spare ≤ places
   pub numbers_left : length parts + spare ≤ numbers
+  pub few : size + spare ≤ most_places
+  pub ends : end ≡ size

@@ -1,6 +1,9 @@
 pub mod Rooms
 pub mod Pool
 pub mod Parts
-pub mod Entries
 pub mod Layout
+pub mod Links
+pub mod PackedStates
+pub mod States
+pub mod Entries
 pub mod Held

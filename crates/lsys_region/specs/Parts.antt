@@ -8,10 +8,11 @@ pub record SizedPart : Type 0 where
   pub class : ℕ
   pub filled : Option ℕ
 
--- the parts by their numbers, and how many fit with no allocation
+-- the parts by their numbers, how many fit with no allocation, and where the last one ends
 pub record Parts : Type 0 where
   pub parts : List SizedPart
   pub capacity : ℕ
+  pub end : ℕ
 
 -- no part of this class is free
 abbrev pub AllTaken : List SizedPart → ℕ → Type 0

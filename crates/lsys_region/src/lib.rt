@@ -10,6 +10,7 @@
 #![tactic(auto)]
 
 mod class;
+mod packed;
 mod table;
 
 ghost use Rattle.std.specs.Prelude.{◌≡◌, ℕ, ◌+◌, ◌<◌, ◌≤◌, length, max, Some, None, IfSome, IsOk, OnOk, OnErr, vec_capacity};
@@ -19,8 +20,10 @@ ghost use Rattle.lsys_region.specs.Rooms.{list_room};
 
 use class::class_of;
 pub use class::room;
+use packed::{Link, MOST_PLACES};
 use std::alloc::{AllocError, Global};
 use std::marker::Model;
+use std::mem::size_of;
 use table::Table;
 
 /// The name of a list that stands in a region, made by [`Region::place`].
@@ -28,15 +31,17 @@ use table::Table;
 /// It can't be copied, and [`Region::free`] takes it away. It may be read only in a region where it is live.
 #[derive(Debug, Drop)]
 pub struct Run {
-    number: Option<usize>,
+    part: Link,
 }
+
+const _: () = prove!(size_of::<Run>() == 4);
 
 impl Model for Run {
     ghost use Rattle.std.specs.Prelude.{ℕ, Option};
 
     ghost Value = { Option ℕ };
 
-    ghost view = { λ r. r.number };
+    ghost view = { λ r. r.part };
 }
 
 /// A pool of lists over one vector.
@@ -63,7 +68,7 @@ impl<T: Copy> Model for Region<T> {
       spare = a.spare;
     } };
 
-    ghost invariant = { λ a. IsSoundLayout a.table.parts (length a.cells.items) a.spare (vec_capacity a.cells) a.table.capacity };
+    ghost invariant = { λ a. IsSoundLayout a.table.parts (length a.cells.items) a.spare (vec_capacity a.cells) a.table.capacity a.table.end };
 }
 
 impl<T: Copy> Region<T> {
@@ -82,7 +87,8 @@ impl<T: Copy> Region<T> {
     ///
     /// # Errors
     ///
-    /// Want of memory, and only where the spare was less than `n`. Then all stays as it was.
+    /// Want of memory, and only where the spare was less than `n`. Then all stays as it was. A vector of more than
+    /// 2^31 - 1 places can't be had.
     pub fn reserve(&mut self, n: usize) -> Result<(), AllocError>
         ensures spare { OnOk result (n ≤ self.new.spare) }
         ensures runs { OnOk result (self.new ≡ record self.old { spare = max self.old.spare n }) }
@@ -91,6 +97,9 @@ impl<T: Copy> Region<T> {
     {
         if n <= self.spare {
             return Ok(());
+        }
+        if n > MOST_PLACES - self.cells.len() {
+            return Err(AllocError);
         }
         self.cells.reserve(n)?;
         self.table.reserve(n)?;
@@ -112,21 +121,23 @@ impl<T: Copy> Region<T> {
         ensures grows { free_for self.old list.now ≡ 0 → Grows self.old self.new list.now }
         ensures other_rooms { OtherRoomsStay self.old self.new list.now }
     {
-        let start = self.cells.len();
+        // The type's invariant is known where a field is named.
+        let _ = &self.spare;
         let Some(last) = list.last() else {
-            return Run { number: None };
+            return Run { part: Link::none() };
         };
         let class = class_of(list.len());
         if let Some(number) = self.table.take(class.number, list.len()) {
             overwrite(&mut self.cells, self.table.span(number).start, list);
             return Run {
-                number: Some(number),
+                part: Link::to(number),
             };
         }
         append(&mut self.cells, list, *last, class.room);
         self.spare -= class.room;
+        let number = self.table.add(class, list.len());
         Run {
-            number: Some(self.table.add(start, class.number, list.len())),
+            part: Link::to(number),
         }
     }
 
@@ -135,7 +146,7 @@ impl<T: Copy> Region<T> {
         requires { IsLiveRun self.now run.now }
         ensures { list_of self.now run.now ≡ Some result.now }
     {
-        match run.number {
+        match run.part.number() {
             Some(number) => {
                 let span = self.table.span(number);
                 &self.cells[span.start..span.start + span.len]
@@ -153,7 +164,7 @@ impl<T: Copy> Region<T> {
         ensures spare { self.new.spare ≡ self.old.spare }
         ensures given_back { GivesBackRun run self.old self.new }
     {
-        if let Some(number) = run.number {
+        if let Some(number) = run.part.number() {
             self.table.release(number);
         }
     }

@@ -1,27 +1,22 @@
 //! The table of the parts of a region's vector. The free parts of each size class are linked, the last freed first.
 ghost use Rattle.std.specs.Prelude.{◌≡◌, ℕ, ◌+◌, ◌<◌, ◌≤◌, [], ◌∷◌, ◌++◌, length, Some, None, IfNone, IfSome, OnOk, OnErr, slice_get, slice_set};
 ghost use Rattle.lsys_region.specs.Parts.{AllTaken, IsTakenPart, IsPartSpan, AddsPart, TakesPart, FreesPart};
+ghost use Rattle.lsys_region.specs.Layout.{most_places, HaveRooms};
 
-use crate::class::CLASSES;
+use crate::class::{CLASSES, Class, class_of};
+use crate::packed::{Link, PackedState, State};
 use std::alloc::{AllocError, Global};
 use std::marker::Model;
+use std::mem::size_of;
 
-/// Whether a part holds a list.
-#[derive(Clone, Copy, Drop)]
-pub(crate) enum State {
-    /// It holds a list of this length.
-    Taken(usize),
-    /// It holds none; and the free part of its class that comes next.
-    Free(Option<usize>),
-}
-
-/// A part of the vector: where it begins, its size class, and its state.
+/// A part of the vector: where it begins, and its state. It ends where the next part begins.
 #[derive(Clone, Copy, Drop)]
 pub(crate) struct Entry {
-    start: usize,
-    class: usize,
-    state: State,
+    start: u32,
+    state: PackedState,
 }
+
+const _: () = prove!(size_of::<Entry>() == 8);
 
 /// Where a list stands in the vector.
 #[derive(Clone, Copy)]
@@ -30,41 +25,49 @@ pub(crate) struct Span {
     pub(crate) len: usize,
 }
 
-/// The parts by their numbers, and the first free part of each size class.
+/// The parts by their numbers, the first free part of each size class, and where the last part ends.
 #[derive(Drop)]
 pub(crate) struct Table {
     entries: Vec<Entry>,
-    heads: [Option<usize>; CLASSES],
+    heads: [Link; CLASSES],
+    end: usize,
 }
 
 impl Model for Table {
-    ghost use Rattle.std.specs.Prelude.{map, vec_capacity};
+    ghost use Rattle.std.specs.Prelude.{vec_capacity};
     ghost use Rattle.lsys_region.specs.Parts.{Parts};
 
     ghost Value = { Parts };
 
-    ghost use Rattle.lsys_region.specs.Entries.{part_of, AreLinkedByClass};
+    ghost use Rattle.lsys_region.specs.Entries.{sized_parts, IsSoundTable};
 
-    ghost view = { λ a. record { parts = map part_of a.entries.items; capacity = vec_capacity a.entries } };
+    ghost view = { λ a. record {
+      parts = sized_parts a.entries.items a.end;
+      capacity = vec_capacity a.entries;
+      end = a.end;
+    } };
 
-    ghost invariant = { λ a. AreLinkedByClass a.entries.items a.heads };
+    ghost invariant = { λ a. IsSoundTable a.entries.items a.heads a.end };
 }
 
 impl Table {
     /// A table with no parts.
     pub(crate) fn new(alloc: Global) -> Table
-        ensures { result.parts ≡ [] }
+        ensures parts { result.parts ≡ [] }
+        ensures end { result.end ≡ 0 }
     {
-        let heads = [None; CLASSES];
+        let none = Link::none();
         Table {
             entries: Vec::new(alloc),
-            heads,
+            heads: [none; CLASSES],
+            end: 0,
         }
     }
 
     /// Makes room for `n` parts more.
     pub(crate) fn reserve(&mut self, n: usize) -> Result<(), AllocError>
         ensures parts { self.new.parts ≡ self.old.parts }
+        ensures end { self.new.end ≡ self.old.end }
         ensures ok { OnOk result (length self.new.parts + n ≤ self.new.capacity) }
         ensures capacity { self.old.capacity ≤ self.new.capacity }
     {
@@ -73,37 +76,43 @@ impl Table {
 
     /// Takes a free part of the class for a list of this length, if there is one, and answers its number.
     pub(crate) fn take(&mut self, class: usize, len: usize) -> Option<usize>
-        requires { class < 64 }
+        requires class { class < 64 }
+        requires len { len ≤ most_places }
         ensures none { IfNone result (AllTaken self.old.parts class) }
         ensures same { IfNone result (self.new ≡ self.old) }
         ensures taken { IfSome result (λ number. TakesPart self.old.parts self.new.parts number class len) }
+        ensures number { IfSome result (λ number. number < most_places) }
+        ensures end { self.new.end ≡ self.old.end }
         ensures capacity { self.old.capacity ≤ self.new.capacity }
     {
-        let Some(number) = self.heads[class] else {
+        let Some(number) = self.heads[class].number() else {
             return None;
         };
         let entry = &mut self.entries[number];
-        let State::Free(next) = entry.state else {
+        let State::Free(next) = entry.state.get() else {
             unreachable!()
         };
-        entry.state = State::Taken(len);
+        entry.state = PackedState::taken(len);
         self.heads[class] = next;
         Some(number)
     }
 
     /// Adds a part that holds a list of this length, and answers its number. It takes no memory.
-    pub(crate) fn add(&mut self, start: usize, class: usize, len: usize) -> usize
-        requires class { class < 64 }
+    pub(crate) fn add(&mut self, class: Class, len: usize) -> usize
         requires room { length self.old.parts < self.old.capacity }
-        ensures added { AddsPart self.old.parts self.new.parts result start class len }
+        requires places { self.old.end + class.room ≤ most_places }
+        requires len { len ≤ most_places }
+        ensures added { AddsPart self.old.parts self.new.parts result self.old.end class.number len }
+        ensures number { result < most_places }
+        ensures end { self.new.end ≡ self.old.end + class.room }
         ensures capacity { self.old.capacity ≤ self.new.capacity }
     {
         let number = self.entries.len();
         let entry = Entry {
-            start,
-            class,
-            state: State::Taken(len),
+            start: self.end as u32,
+            state: PackedState::taken(len),
         };
+        self.end += class.room;
         match self.entries.push(entry) {
             Ok(()) => number,
             Err(_) => unreachable!(),
@@ -112,25 +121,29 @@ impl Table {
 
     /// Frees a part that holds a list. It takes no memory.
     pub(crate) fn release(&mut self, number: usize)
-        requires { IsTakenPart self.old.parts number }
+        requires taken { IsTakenPart self.old.parts number }
+        requires rooms { HaveRooms self.old.parts }
         ensures freed { FreesPart self.old.parts self.new.parts number }
+        ensures end { self.new.end ≡ self.old.end }
         ensures capacity { self.old.capacity ≤ self.new.capacity }
     {
-        let entry = &mut self.entries[number];
-        let class = entry.class;
-        entry.state = State::Free(self.heads[class]);
-        self.heads[class] = Some(number);
+        let span = self.span(number);
+        let class = class_of(span.len);
+        let next = self.heads[class.number];
+        self.entries[number].state = PackedState::free(next);
+        self.heads[class.number] = Link::to(number);
     }
 
     /// Where the list stands that this part holds.
     pub(crate) fn span(&self, number: usize) -> Span
         requires { IsTakenPart self.now.parts number }
-        ensures { IsPartSpan self.now.parts number result.start result.len }
+        ensures stands { IsPartSpan self.now.parts number result.start result.len }
+        ensures short { result.len ≤ most_places }
     {
         let entry = &self.entries[number];
-        match entry.state {
+        match entry.state.get() {
             State::Taken(len) => Span {
-                start: entry.start,
+                start: entry.start as usize,
                 len,
             },
             State::Free(_) => unreachable!(),

@@ -18,19 +18,24 @@ class_of-class-requires-clause-bounded g c =
     let spare : c.self.inside.spare ≡ c.args.self.now.spare = ap (λ (p : Pool g.row.T.Denot). p.spare) c.self.view_is in
     room_bounds (length c.args.list.now) (omega arith)
 
+pub take-requires-clause-len : goal.take-requires-clause-len
+take-requires-clause-len g c =
+    let spare : c.self.inside.spare ≡ c.args.self.now.spare = ap (λ (p : Pool g.row.T.Denot). p.spare) c.self.view_is in
+    omega (arith, room_fits (length c.args.list.now), c.self.invariant.few)
+
 pub span-requires : goal.span-requires
 span-requires g c = IsTaken-take c.in-Some-take.ensures.taken
 
 pub overwrite-requires : goal.overwrite-requires
-overwrite-requires g c = taken_within c.self.invariant.lie c.in-Some-take.ensures.taken c.span.ensures (sym c.class_of-class.ensures ∙ c.class_of-class.result.power)
+overwrite-requires g c = taken_within c.self.invariant.lie c.in-Some-take.ensures.taken c.span.ensures.stands (sym c.class_of-class.ensures ∙ c.class_of-class.result.power)
 
 pub invariant_of-self : goal.invariant_of-self
 invariant_of-self g c =
-    IsSound-take c.self.invariant c.in-Some-take.ensures.taken (sym c.class_of-class.ensures ∙ c.class_of-class.result.power) c.overwrite.ensures.written.size (omega arith) c.in-Some-take.ensures.capacity
+    IsSound-take c.self.invariant c.in-Some-take.ensures.taken (sym c.class_of-class.ensures ∙ c.class_of-class.result.power) c.overwrite.ensures.written.size (omega arith) c.in-Some-take.ensures.capacity c.in-Some-take.ensures.end
 
 pub returns-in-Some-take : goal.returns-in-Some-take
 returns-in-Some-take g c =
-    let done = IsPlaced-again c.self.view_is c.self.invariant.lie c.in-Some-take.ensures.taken c.span.ensures (sym c.class_of-class.ensures ∙ c.class_of-class.result.power) c.overwrite.ensures.written in
+    let done = IsPlaced-again c.to.ensures c.self.view_is c.self.invariant.lie c.in-Some-take.ensures.taken c.span.ensures.stands (sym c.class_of-class.ensures ∙ c.class_of-class.result.power) c.overwrite.ensures.written in
     record {
       placed = done.placed;
       fresh = done.fresh;
@@ -46,14 +51,15 @@ append-requires-clause-fits g c = omega (arith, room_fits (length c.args.list.no
 
 pub invariant_of-self-2 : goal.invariant_of-self-2
 invariant_of-self-2 g c =
-    let added = rw c.in_default-take.ensures.same at c.add.ensures.added in
+    let added = rw c.in_default-take.ensures.same at c.add-number.ensures.added in
     let capacity : c.self.inside.table.capacity ≤ c.take.new.self.capacity = c.in_default-take.ensures.capacity in
-    IsSound-push _ _ _ _ c.self.view_is c.self.invariant (omega arith) added c.append.ensures.appended c.class_of-class.result.power c.class_of-class.ensures c.requires c.append.ensures.capacity (omega (arith, c.add.ensures.capacity))
+    let ended = rw c.in_default-take.ensures.same at c.add-number.ensures.end in
+    IsSound-push _ _ _ _ c.self.view_is c.self.invariant added ended c.append.ensures.appended c.class_of-class.result.power c.class_of-class.ensures c.requires c.append.ensures.capacity (omega (arith, c.add-number.ensures.capacity))
 
 pub returns : goal.returns
 returns g c =
-    let added = rw c.in_default-take.ensures.same at c.add.ensures.added in
-    let done = IsPlaced-new c.self.view_is c.self.invariant.lie c.in_default-take.ensures.none (omega arith) added c.append.ensures.appended c.class_of-class.result.power c.class_of-class.ensures c.requires in
+    let added = rw c.in_default-take.ensures.same at c.add-number.ensures.added in
+    let done = IsPlaced-new c.to-2.ensures c.self.view_is c.self.invariant.lie c.in_default-take.ensures.none c.self.invariant.ends added c.append.ensures.appended c.class_of-class.result.power c.class_of-class.ensures c.requires in
     record {
       placed = done.placed;
       fresh = done.fresh;

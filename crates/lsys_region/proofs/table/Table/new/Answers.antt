@@ -1,6 +1,6 @@
-use Rattle.std.proofs.Common.{refl}
-use Rattle.lsys_region.proofs.TableLemmas.{AreLinked-nil}
+use Rattle.std.proofs.Common.{Option, ℕ, replicate, ap}
+use Rattle.lsys_region.proofs.TableLemmas.{IsSound-nil}
 use Rattle.lsys_region.proofs.table.Table.new.Goals as goal
 
 pub invariant_of-result : goal.invariant_of-result
-invariant_of-result c = AreLinked-nil _ _ c.new.ensures.items refl
+invariant_of-result c = IsSound-nil _ _ c.new.ensures.items (ap (λ (o : Option ℕ). replicate 64 o) c.none-none.ensures)
