@@ -7,9 +7,9 @@ use Rattle.lsys_spec.specs.Rows.{In}
 use Rattle.lsys_reads.specs.declared.Pair.{Pair}
 use Rattle.lsys_reads.specs.Relations.{pairs_have}
 use Rattle.lsys_walks.specs.declared.entry.Entry.{Entry}
-use Rattle.lsys_walks.specs.declared.entry.EntryKind.{EntryKind}
-use Rattle.lsys_walks.specs.declared.entry.EntryKind.TheVariants as kinds
-use Rattle.lsys_walks.specs.Views.{noted_of, noted_by_kind, module_named, decoded}
+use Rattle.lsys_walks.specs.declared.entry.Entry.TheVariants.{Compared, Ignored, Out, Branch}
+use Rattle.lsys_walks.specs.Parts.{arity_of}
+use Rattle.lsys_walks.specs.Views.{noted_of, decoded}
 use Rattle.lsys_region.specs.Pool.{list_of}
 use Rattle.lsys_walks.specs.Stores.{Store}
 use Rattle.lsys_match.specs.Kept.{Kept}
@@ -25,18 +25,15 @@ comes_further old mid new more is h = record { more = more ++ h.more; is = h.is 
 -- 2. the tags of a trace
 
 entry_same : (e : Entry) (values : List ℤ) → tags_named (noted_of e values) ≡ entry_tags e
-entry_same e values = by e.kind
-  where
-    by : (k : EntryKind) → tags_named (noted_by_kind k (record { rule = e.rule; depth = e.depth }) e.tag e.mate (module_named e.name values)) ≡ tags_named (noted_by_kind k (record { rule = e.rule; depth = e.depth }) e.tag e.mate (module_named e.name []))
-    by kinds.Compared = refl
-    by kinds.Ignored = refl
-    by kinds.Out = refl
-    by kinds.Branch = refl
+entry_same (Compared d arity tag name) values = refl
+entry_same (Ignored d arity tag name) values = refl
+entry_same (Out d tag) values = refl
+entry_same (Branch d tag mate) values = refl
 
 pub entries_same : (es : List Entry) (values : List ℤ) → flat_map tags_named (decoded es values) ≡ entries_tags es
 entries_same [] values = refl
 entries_same (e ∷ es) values =
-    ap (λ l. l ++ flat_map tags_named (decoded es (drop e.arity values))) (entry_same e (take e.arity values)) ∙ ap (λ l. entry_tags e ++ l) (entries_same es (drop e.arity values))
+    ap (λ l. l ++ flat_map tags_named (decoded es (drop (arity_of e) values))) (entry_same e (take (arity_of e) values)) ∙ ap (λ l. entry_tags e ++ l) (entries_same es (drop (arity_of e) values))
 
 -- 3. whether a pair is among them
 

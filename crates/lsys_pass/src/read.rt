@@ -7,7 +7,7 @@ ghost use Rattle.lsys_pass.specs.Read.{entry_tags, entries_tags, ComesBehind, Ad
 use crate::work::Work;
 use lsys_level::Tag;
 use lsys_reads::Reads;
-use lsys_walks::{Entry, EntryKind};
+use lsys_walks::Entry;
 use std::alloc::AllocError;
 
 /// Adds to the pending pairs that a reader read these entries.
@@ -76,9 +76,13 @@ fn add_entry(reads: &mut Reads, reader: Tag, entry: &Entry) -> Result<(), AllocE
     ensures behind { ComesBehind reads.old.pending reads.new.pending }
     ensures ok { OnOk result (AddsPairs reads.old reads.new reader (entry_tags entry.now)) }
 {
-    reads.add(reader, entry.tag)?;
-    if entry.kind == EntryKind::Branch {
-        reads.add(reader, entry.mate)?;
+    match *entry {
+        Entry::Compared { tag, .. } | Entry::Ignored { tag, .. } | Entry::Out { tag, .. } => {
+            reads.add(reader, tag)
+        }
+        Entry::Branch { tag, mate, .. } => {
+            reads.add(reader, tag)?;
+            reads.add(reader, mate)
+        }
     }
-    Ok(())
 }

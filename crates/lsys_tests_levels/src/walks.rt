@@ -145,10 +145,10 @@ fn told(rt: &impl Abort, alloc: Global, walked: Walked, entries: &[Entry]) -> Ve
     told.push(end_of(walked)).expect(rt, "memory");
     for entry in entries {
         let parts = [
-            kind_of(entry.kind),
-            u32::from(entry.depth),
-            entry.tag.0,
-            entry.mate.0,
+            kind_of(entry.kind()),
+            u32::from(entry.depth()),
+            entry.tag().0,
+            entry.mate().0,
         ];
         told.extend_from_slice(&parts).expect(rt, "memory");
     }

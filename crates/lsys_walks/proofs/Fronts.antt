@@ -4,6 +4,7 @@ use Rattle.std.proofs.lemmas.List.{drop_more}
 use Rattle.lsys_spec.specs.Output.{IsFront}
 use Rattle.lsys_walks.specs.declared.entry.Entry.{Entry}
 use Rattle.lsys_walks.specs.Noted.{Noted}
+use Rattle.lsys_walks.specs.Parts.{arity_of}
 use Rattle.lsys_walks.specs.Views.{noted_of, arities, decoded}
 use Rattle.lsys_walks.specs.Readings.{Read, trace_so_far}
 use Rattle.lsys_walks.proofs.Decoding.{length_decoded, drop_front, take_front}
@@ -36,11 +37,11 @@ decoded_join : (es fs : List Entry) (us ws : List ℤ) → arities es ≡ length
 decoded_join [] fs [] ws h = refl
 decoded_join [] fs (u ∷ us) ws h = absurd (omega (arith, h))
 decoded_join (d ∷ es) fs us ws h =
-    let fits : d.arity ≤ length us = omega (arith, h) in
-    let rest : arities es ≡ length (drop d.arity us) = omega (arith, h, length-drop d.arity us) in
-    ap (λ v. noted_of d v ∷ decoded (es ++ fs) (drop d.arity (us ++ ws))) (take_front d.arity us ws fits)
-    ∙ ap (λ v. noted_of d (take d.arity us) ∷ decoded (es ++ fs) v) (drop_front d.arity us ws fits)
-    ∙ ap (λ t. noted_of d (take d.arity us) ∷ t) (decoded_join es fs (drop d.arity us) ws rest)
+    let fits : arity_of d ≤ length us = omega (arith, h) in
+    let rest : arities es ≡ length (drop (arity_of d) us) = omega (arith, h, length-drop (arity_of d) us) in
+    ap (λ v. noted_of d v ∷ decoded (es ++ fs) (drop (arity_of d) (us ++ ws))) (take_front (arity_of d) us ws fits)
+    ∙ ap (λ v. noted_of d (take (arity_of d) us) ∷ decoded (es ++ fs) v) (drop_front (arity_of d) us ws fits)
+    ∙ ap (λ t. noted_of d (take (arity_of d) us) ∷ t) (decoded_join es fs (drop (arity_of d) us) ws rest)
 
 cancel : {A : Type 0} (xs ys zs : List A) → xs ++ ys ≡ xs ++ zs → ys ≡ zs
 cancel [] ys zs e = e
@@ -87,7 +88,8 @@ module _ (es : List Entry) (vs : List ℤ) (p q : ℕ) (h : arities es ≡ lengt
       nil [] = refl
       nil (x ∷ xs) = ap (λ r. x ∷ r) (nil xs)
 
-  module _ (d : Entry) (r : p < length es) where
+  -- the entry that follows, and how many parameters it has
+  module _ (d : Entry) (r : p < length es) (size : ℕ) (a : size ≡ arity_of (get_or es p d)) where
     abbrev pub next : Entry
     next = get_or es p d
 
@@ -96,31 +98,32 @@ module _ (es : List Entry) (vs : List ℤ) (p q : ℕ) (h : arities es ≡ lengt
 
     -- its values, as the code slices them
     abbrev pub values : List ℤ
-    values = take (q + next.arity - q) (drop q vs)
+    values = take (q + size - q) (drop q vs)
 
-    arity_is : q + next.arity - q ≡ next.arity
-    arity_is = omega arith
+    arity_is : q + size - q ≡ arity_of next
+    arity_is = omega (arith, a)
 
-    pub more_within : q + next.arity ≤ length vs
+    pub more_within : q + size ≤ length vs
     more_within =
         let s : arities es ≡ arities (take p es) + arities (drop p es) = ap arities (sym (take_drop p es)) ∙ arities_join (take p es) (drop p es) in
-        let t = ap arities here in omega (arith, s, t, h, l)
+        let t = ap arities here in omega (arith, s, t, h, l, a)
 
     more : take (p + 1) es ≡ take p es ++ next ∷ []
     more = take_sum p 1 es ∙ ap (λ t. take p es ++ take 1 t) here
 
-    pub more_arities : q + next.arity ≡ arities (take (p + 1) es)
-    more_arities = let s = ap arities more ∙ arities_join (take p es) (next ∷ []) in omega (arith, s, l)
+    pub more_arities : q + size ≡ arities (take (p + 1) es)
+    more_arities = let s = ap arities more ∙ arities_join (take p es) (next ∷ []) in omega (arith, s, l, a)
 
-    goes_on : decoded es vs ≡ front ++ noted_of next values ∷ decoded (drop (p + 1) es) (drop next.arity (drop q vs))
+    goes_on : decoded es vs ≡ front ++ noted_of next values ∷ decoded (drop (p + 1) es) (drop (arity_of next) (drop q vs))
     goes_on =
         splits ∙ ap (λ t. front ++ decoded t (drop q vs)) here
-        ∙ ap (λ k. front ++ noted_of next (take k (drop q vs)) ∷ decoded (drop (p + 1) es) (drop next.arity (drop q vs))) (sym arity_is)
+        ∙ ap (λ k. front ++ noted_of next (take k (drop q vs)) ∷ decoded (drop (p + 1) es) (drop (arity_of next) (drop q vs))) (sym arity_is)
 
-    front_more : decoded (take (p + 1) es) (take (q + next.arity) vs) ≡ front ++ noted_of next values ∷ []
+    front_more : decoded (take (p + 1) es) (take (q + size) vs) ≡ front ++ noted_of next values ∷ []
     front_more =
-        (λ j. decoded (more j) (take_sum q next.arity vs j)) ∙ decoded_join (take p es) (next ∷ []) (take q vs) (take next.arity (drop q vs)) front_fits
-        ∙ ap (λ v. front ++ noted_of next v ∷ []) (twice next.arity (drop q vs))
+        ap (λ k. decoded (take (p + 1) es) (take (q + k) vs)) a
+        ∙ (λ j. decoded (more j) (take_sum q (arity_of next) vs j)) ∙ decoded_join (take p es) (next ∷ []) (take q vs) (take (arity_of next) (drop q vs)) front_fits
+        ∙ ap (λ v. front ++ noted_of next v ∷ []) (twice (arity_of next) (drop q vs))
         ∙ ap (λ k. front ++ noted_of next (take k (drop q vs)) ∷ []) (sym arity_is)
       where
         twice : (n : ℕ) (xs : List ℤ) → take n (take n xs) ≡ take n xs
@@ -129,16 +132,16 @@ module _ (es : List Entry) (vs : List ℤ) (p q : ℕ) (h : arities es ≡ lengt
         twice (suc n) (x ∷ xs) = ap (λ r. x ∷ r) (twice n xs)
 
     module _ (n : Noted) where
-      pub passed : noted_of next values ≡ n → decoded (take (p + 1) es) (take (q + next.arity) vs) ≡ front ++ n ∷ []
+      pub passed : noted_of next values ≡ n → decoded (take (p + 1) es) (take (q + size) vs) ≡ front ++ n ∷ []
       passed e = front_more ∙ ap (λ n. front ++ n ∷ []) e
 
       pub is_front : noted_of next values ≡ n → IsFront (front ++ n ∷ []) (decoded es vs)
       is_front e =
-          let rest = decoded (drop (p + 1) es) (drop next.arity (drop q vs)) in
+          let rest = decoded (drop (p + 1) es) (drop (arity_of next) (drop q vs)) in
           (rest, goes_on ∙ ap (λ n. front ++ n ∷ rest) e ∙ sym (append_assoc front (n ∷ []) rest))
 
       pub is_next : IsFront (front ++ n ∷ []) (decoded es vs) → noted_of next values ≡ n
-      is_next f = next_is (decoded es vs) front (noted_of next values) n (decoded (drop (p + 1) es) (drop next.arity (drop q vs))) goes_on f
+      is_next f = next_is (decoded es vs) front (noted_of next values) n (decoded (drop (p + 1) es) (drop (arity_of next) (drop q vs))) goes_on f
 
 -- while all agree
 module _ (es : List Entry) (vs : List ℤ) (p q : ℕ) (own : List Noted) (agrees : Bool) (s : Read) (v : record { old = decoded es vs; read = trace_so_far agrees es vs p q own; agrees = agrees } ≡ s) (t : agrees ≡ true) where

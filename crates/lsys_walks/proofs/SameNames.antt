@@ -6,34 +6,36 @@ use Rattle.lsys_module.specs.Views.{module_name}
 use Rattle.lsys_spec.specs.Levels.{ModuleValue}
 use Rattle.lsys_spec.specs.Walks as W
 use Rattle.lsys_walks.specs.declared.entry.Entry.{Entry}
-use Rattle.lsys_walks.specs.declared.entry.EntryKind.{EntryKind}
+use Rattle.lsys_walks.specs.declared.entry.Entry.TheVariants.{Compared, Ignored, Out, Branch}
 use Rattle.lsys_walks.specs.declared.entry.EntryKind.TheVariants as kinds
-use Rattle.lsys_walks.specs.Views.{noted_by_kind, noted_of}
+use Rattle.lsys_walks.specs.Noted as noted
+use Rattle.lsys_walks.specs.Parts.{entry_kind, entry_rule, depth_of, tag_of, entry_name}
+use Rattle.lsys_walks.specs.Views.{noted_of}
 use Rattle.lsys_module.proofs.Names.{module_name-text}
 
 pub same_text : (m n : List ℕ) → IsNameBytes m → IsNameBytes n → module_name m ≡ module_name n → m ≡ n
 same_text m n h k e = sym (module_name-text m h) ∙ ap module_name_text e ∙ module_name-text n k
 
--- what doesn't carry a module
-abbrev pub HasModule : EntryKind → Type 0
-HasModule k = (k ≡ kinds.Out → ⊥) × (k ≡ kinds.Branch → ⊥)
+compared_module : (d e : W.Mark) (t u : ℕ) (m n : ModuleValue) → noted.Compared d t m ≡ noted.Compared e u n → m ≡ n
+compared_module d e t u m n i = cc
 
-any_mate : (k : EntryKind) → HasModule k → (d : W.Mark) (t u v : ℕ) (m : ModuleValue) → noted_by_kind k d t u m ≡ noted_by_kind k d t v m
-any_mate kinds.Compared h d t u v m = refl
-any_mate kinds.Ignored h d t u v m = refl
-any_mate kinds.Out h d t u v m = refl
-any_mate kinds.Branch h d t u v m = absurd (h.1 refl)
+ignored_module : (d e : W.Mark) (t u : ℕ) (m n : ModuleValue) → noted.Ignored d t m ≡ noted.Ignored e u n → m ≡ n
+ignored_module d e t u m n i = cc
 
-same_params : (k : EntryKind) → HasModule k → (d e : W.Mark) (t s u v : ℕ) (m n : ModuleValue) → noted_by_kind k d t u m ≡ noted_by_kind k e s v n → m ≡ n
-same_params kinds.Compared h d e t s u v m n i = cc
-same_params kinds.Ignored h d e t s u v m n i = cc
-same_params kinds.Out h d e t s u v m n i = absurd (h.0 refl)
-same_params kinds.Branch h d e t s u v m n i = absurd (h.1 refl)
-
-pub alike_modules : (a b : Entry) (xs ys : List ℤ) (r : Bool) → HasModule a.kind → a.kind ≡ b.kind → a.rule ≡ b.rule → a.depth ≡ b.depth → a.tag ≡ b.tag → module_name a.name ≡ module_name b.name
+-- entries that carry modules, with the same marks, tags and names
+pub alike_modules : (a b : Entry) (xs ys : List ℤ) (r : Bool) → (entry_kind a ≡ kinds.Out → ⊥) → (entry_kind a ≡ kinds.Branch → ⊥)
+    → entry_kind a ≡ entry_kind b → entry_rule a ≡ entry_rule b → depth_of a ≡ depth_of b → tag_of a ≡ tag_of b → module_name (entry_name a) ≡ module_name (entry_name b)
     → IsTrue r ↔ (xs ≡ ys) → IsTrue r ↔ (noted_of a xs ≡ noted_of b ys)
-alike_modules a b xs ys r h kind rule depth tag name params = (
-  λ t. let same : xs ≡ ys = params.0 t in
-      any_mate a.kind h _ a.tag a.mate b.mate _ ∙ (λ i. noted_by_kind (kind i) (record { rule = rule i; depth = depth i }) (tag i) b.mate (record { name = name i; params = same i })),
-  λ e. params.1 (ap (λ (m : ModuleValue). m.params) (same_params a.kind h _ _ _ _ _ _ _ _ (e ∙ ap (λ k. noted_by_kind k (record { rule = b.rule; depth = b.depth }) b.tag b.mate (record { name = module_name b.name; params = ys })) (sym kind)))),
+alike_modules (Compared d n t name) (Compared e m u other) xs ys r out branch kind rule depth tag names params = (
+  λ yes. let same : xs ≡ ys = params.0 yes in
+      λ i. noted.Compared (record { rule = rule i; depth = depth i }) (tag i) (record { name = names i; params = same i }),
+  λ i. params.1 (ap (λ (v : ModuleValue). v.params) (compared_module _ _ _ _ _ _ i)),
 )
+alike_modules (Ignored d n t name) (Ignored e m u other) xs ys r out branch kind rule depth tag names params = (
+  λ yes. let same : xs ≡ ys = params.0 yes in
+      λ i. noted.Ignored (record { rule = rule i; depth = depth i }) (tag i) (record { name = names i; params = same i }),
+  λ i. params.1 (ap (λ (v : ModuleValue). v.params) (ignored_module _ _ _ _ _ _ i)),
+)
+alike_modules (Out d t) b xs ys r out branch kind rule depth tag names params = absurd (out refl)
+alike_modules (Branch d t u) b xs ys r out branch kind rule depth tag names params = absurd (branch refl)
+alike_modules a b xs ys r out branch kind rule depth tag names params = absurd cc

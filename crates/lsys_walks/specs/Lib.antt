@@ -1,5 +1,6 @@
 pub mod Noted
 pub mod Patterns
+pub mod Parts
 pub mod Views
 pub mod Walked
 pub mod Items

@@ -17,16 +17,16 @@ fn is_named_alike(one: Name, other: Name) -> bool
 pub(crate) fn is_alike(one: &Entry, ones: &[i64], other: &Entry, others: &[i64]) -> bool
     ensures { IsTrue result ↔ (noted_of one.now ones.now ≡ noted_of other.now others.now) }
 {
-    if one.kind != other.kind
-        || one.rule != other.rule
-        || one.depth != other.depth
-        || one.tag != other.tag
+    if one.kind() != other.kind()
+        || one.rule() != other.rule()
+        || one.depth() != other.depth()
+        || one.tag() != other.tag()
     {
         return false;
     }
-    match one.kind {
+    match one.kind() {
         EntryKind::Out => true,
-        EntryKind::Branch => one.mate == other.mate,
-        _ => is_named_alike(one.name, other.name) && ones == others,
+        EntryKind::Branch => one.mate() == other.mate(),
+        _ => is_named_alike(one.name(), other.name()) && ones == others,
     }
 }

@@ -4,6 +4,7 @@ ghost use Rattle.lsys_spec.specs.Output.{IsFront};
 ghost use Rattle.lsys_spec.specs.Meaning.{most_entries};
 ghost use Rattle.lsys_walks.specs.Views.{decoded, arities};
 ghost use Rattle.lsys_walks.specs.Readings.{read_with, AddsEntry};
+ghost use Rattle.lsys_walks.specs.Parts.{arity_of};
 
 use crate::alike::is_alike;
 use crate::counter::Counter;
@@ -86,7 +87,7 @@ impl<'a> Reading<'a> {
 
     /// The next entry of the old trace is this one, and was passed.
     fn passes(&mut self, entry: &Entry, params: &[i64]) -> bool
-        requires { length params.now ≡ entry.now.arity }
+        requires { length params.now ≡ arity_of entry.now }
         ensures old { self.new.old ≡ self.old.old }
         ensures passed { IsTrue result → AddsEntry self.old self.new entry.now params.now true }
         ensures left { result ≡ false → self.new ≡ self.old }
@@ -96,7 +97,7 @@ impl<'a> Reading<'a> {
             return false;
         }
         let next = &self.entries[self.place];
-        let end = self.kept + next.arity as usize;
+        let end = self.kept + next.arity() as usize;
         if !is_alike(next, &self.values[self.kept..end], entry, params) {
             return false;
         }
@@ -107,7 +108,7 @@ impl<'a> Reading<'a> {
 
     /// Adds an entry to what was read, which from now on is written.
     fn write(&mut self, entry: Entry, params: &[i64]) -> Result<(), AllocError>
-        requires arity { length params.now ≡ entry.arity }
+        requires arity { length params.now ≡ arity_of entry }
         requires left { IsFront (read_with self.old entry params.now) self.old.old → ⊥ }
         ensures old { self.new.old ≡ self.old.old }
         ensures added { OnOk result (AddsEntry self.old self.new entry params.now false) }
@@ -168,7 +169,7 @@ impl<'a> Reading<'a> {
         params: &[i64],
         visited: &mut Counter<V>,
     ) -> Result<bool, AllocError>
-        requires { length params.now ≡ entry.arity }
+        requires { length params.now ≡ arity_of entry }
         ensures old { self.new.old ≡ self.old.old }
         ensures added { IfOk result (λ far. self.new.read ≡ read_with self.old entry params.now) }
         ensures far { IfOk result (λ far. IsTrue far ↔ (most_entries < length self.new.read)) }

@@ -1,5 +1,6 @@
 //! What walks read.
 ghost use Rattle.std.specs.Prelude.{◌≡◌, ◌++◌, ◌∷◌, [], length, IfOk, OnOk, OnErr};
+ghost use Rattle.lsys_walks.specs.Parts.{arity_of};
 ghost use Rattle.lsys_walks.specs.Views.{noted_of, decoded, arities};
 
 use crate::entry::Entry;
@@ -86,7 +87,7 @@ impl Trace {
     ///
     /// Want of memory. The trace is then as it was.
     pub(crate) fn add(&mut self, entry: Entry, params: &[i64]) -> Result<(), AllocError>
-        requires { length params.now ≡ entry.arity }
+        requires { length params.now ≡ arity_of entry }
         ensures added { OnOk result (self.new ≡ self.old ++ noted_of entry params.now ∷ []) }
         ensures refused { OnErr result (self.new ≡ self.old) }
     {
