@@ -1,5 +1,5 @@
 -- What undoing a change and taking one up do to the nodes and to the other changes.
-use Rattle.std.proofs.Common.{◌≡◌, ◌≤◌, ◌+◌, ℕ, ℤ, zero, suc, List, [], ◌∷◌, ◌++◌, length, set, Option, Some, None, refl, sym, ap, ◌∙◌, arith, inl, inr, subst}
+use Rattle.std.proofs.Common.{◌≡◌, ◌≤◌, ◌+◌, ◌-◌, ℕ, ℤ, zero, suc, List, [], ◌∷◌, ◌++◌, length, set, Option, Some, None, refl, sym, ap, ◌∙◌, arith, inl, inr, subst}
 use Rattle.std.proofs.lemmas.Bool.{cases_eq}
 use Rattle.std.proofs.lemmas.Option.{none-some}
 use Rattle.std.specs.Prelude.{IsSome, IfSome, IfNone, option_map, slice_get}
@@ -9,12 +9,13 @@ use Rattle.lsys_forest.specs.declared.node.Footing.{Footing}
 use Rattle.lsys_forest.specs.declared.note.Note.{Note}
 use Rattle.lsys_forest.specs.declared.note.Was.{Was}
 use Rattle.lsys_forest.specs.declared.note.Was.TheVariants as was
-use Rattle.lsys_forest.specs.Shelves.{Shelf}
+use Rattle.lsys_forest.specs.Shelves.{Shelf, past_room}
 use Rattle.lsys_forest.specs.Slots.{slot_at, no_footing, footing_at, live_slots, kind_set, key_set, answer_set, answer_before}
 use Rattle.lsys_forest.specs.Nodes.{Node, Nodes, change, seen_as, with_seen, with_key, with_kids, with_answer}
 use Rattle.lsys_forest.specs.Changes.{KeepsKids, Previous, Missing, OldSeen, OldKey, OldKids, OldAnswer, Change, undo}
 use Rattle.lsys_forest.specs.Answers.{answer_of, old_answer}
 use Rattle.lsys_forest.specs.Stocks.{row_at, where_some, first_of, before_of, params_left, kids_left, node_of, changes_told, param_lists, kid_lists, param_count, kid_count, IsStock, UndoesParams, UndoesKids, undone_slots, undone_footings, slot_answer, dropped_slot, dropped, looked, DropsParams, TakesKids, noted_answer, nodes_named}
+use Rattle.lsys_forest.specs.Notes.{ForLastNote}
 use Rattle.lsys_forest.proofs.SlotLemmas.{live_change, live_gone, slot_some}
 use Rattle.lsys_forest.proofs.TableLemmas.{get_set_other, get_cleared}
 use Rattle.lsys_forest.proofs.StockLemmas.{change_there, change_other, shown_nodes, lives_stored, AgreeBut, nodes_put, told_plain, told_param, told_kid, param_count_push, kid_count_push}
@@ -37,14 +38,14 @@ module _ {A : Type 0} where
   no_last (x ∷ earlier) c e = cc
 
   -- a change as a note tells it
-  pub record IsToldBy (n : Note A) (c : Change A) : Type 0 where
+  record IsToldBy (n : Note A) (c : Change A) : Type 0 where
     pub node : c.node ≡ n.node
     pub params : List ℤ
     pub kids : List ℕ
     pub before : c.before ≡ before_of n.was params kids
 
   -- the last change is told by the last note
-  pub told_last : (notes : List (Note A)) (ps : List (List ℤ)) (ks : List (List ℕ)) (i : ℕ) (n : Note A) (earlier : List (Change A)) (c : Change A) → i + 1 ≡ length notes → slice_get notes i ≡ Some n → changes_told notes ps ks ≡ earlier ++ c ∷ [] → IsToldBy n c
+  told_last : (notes : List (Note A)) (ps : List (List ℤ)) (ks : List (List ℕ)) (i : ℕ) (n : Note A) (earlier : List (Change A)) (c : Change A) → i + 1 ≡ length notes → slice_get notes i ≡ Some n → changes_told notes ps ks ≡ earlier ++ c ∷ [] → IsToldBy n c
   told_last [] ps ks i n earlier c long here e = absurd (omega (arith, long))
   told_last (m ∷ []) ps ks zero n [] c long here e =
       let change : Change A = record { node = m.node; before = before_of m.was (first_of ps) (first_of ks) } in
@@ -64,21 +65,38 @@ module _ {A : Type 0} where
       let f : changes_told (o ∷ notes) (params_left m.was ps) (kids_left m.was ks) ≡ earlier ++ c ∷ [] = cc in
       told_last (o ∷ notes) (params_left m.was ps) (kids_left m.was ks) i n earlier c (omega (arith, long)) here f
 
-  pub keeps_kids : (w : Was A) (params : List ℤ) (kids : List ℕ) → kid_lists w ≡ 0 → KeepsKids (before_of w params kids)
+  keeps_kids : (w : Was A) (params : List ℤ) (kids : List ℕ) → kid_lists w ≡ 0 → KeepsKids (before_of w params kids)
   keeps_kids was.Missing params kids e = tt
   keeps_kids (was.Kind x) params kids e = tt
   keeps_kids (was.Key x) params kids e = tt
   keeps_kids was.Kids params kids e = absurd (omega (arith, e))
   keeps_kids (was.Answer x) params kids e = tt
 
-  -- the node whose children the last change set
-  pub family_is : (node : Option ℕ) (n : Note A) (changes : List (Change A)) → IfSome node (λ k. n.node ≡ k) → ((c : Change A) (earlier : List (Change A)) → changes ≡ earlier ++ c ∷ [] → IsToldBy n c) → IfSome node (λ k. (c : Change A) (earlier : List (Change A)) → changes ≡ earlier ++ c ∷ [] → c.node ≡ k)
-  family_is None n changes is changes_told = tt
-  family_is (Some k) n changes is changes_told = λ c earlier were. (changes_told c earlier were).node ∙ is
+  last_note : (notes : List (Note A)) (i : ℕ) → i + 1 ≡ length notes → (n : Note A) × (slice_get notes i ≡ Some n)
+  last_note [] i long = absurd (omega (arith, long))
+  last_note (n ∷ []) zero long = (n, refl)
+  last_note (n ∷ []) (suc i) long = absurd (omega (arith, long))
+  last_note (n ∷ m ∷ notes) zero long = absurd (omega (arith, long))
+  last_note (n ∷ m ∷ notes) (suc i) long = last_note (m ∷ notes) i (omega (arith, long))
 
-  pub family_none : (node : Option ℕ) (n : Note A) (changes : List (Change A)) → IfNone node (kid_lists n.was ≡ 0) → ((c : Change A) (earlier : List (Change A)) → changes ≡ earlier ++ c ∷ [] → IsToldBy n c) → IfNone node ((c : Change A) (earlier : List (Change A)) → changes ≡ earlier ++ c ∷ [] → KeepsKids c.before)
-  family_none None n changes is changes_told = λ c earlier were. (let t = changes_told c earlier were in subst KeepsKids (sym t.before) (keeps_kids n.was t.params t.kids is))
-  family_none (Some k) n changes is changes_told = tt
+  last_told : (notes : List (Note A)) (ps : List (List ℤ)) (ks : List (List ℕ)) (c : Change A) (earlier : List (Change A)) → changes_told notes ps ks ≡ earlier ++ c ∷ [] → (n : Note A) × (slice_get notes (length notes - 1) ≡ Some n) × IsToldBy n c
+  last_told [] ps ks c earlier were = absurd (no_last earlier c were)
+  last_told (m ∷ notes) ps ks c earlier were =
+      let long : length (m ∷ notes) - 1 + 1 ≡ length (m ∷ notes) = omega arith in
+      let last = last_note (m ∷ notes) (length (m ∷ notes) - 1) long in
+      (last.0, last.1, told_last (m ∷ notes) ps ks (length (m ∷ notes) - 1) last.0 earlier c long last.1 were)
+
+  -- the node whose children the last change set
+  pub family_is : (node : Option ℕ) (notes : List (Note A)) (ps : List (List ℤ)) (ks : List (List ℕ)) → IfSome node (λ k. ForLastNote notes (λ n. n.node ≡ k)) → IfSome node (λ k. (c : Change A) (earlier : List (Change A)) → changes_told notes ps ks ≡ earlier ++ c ∷ [] → c.node ≡ k)
+  family_is None notes ps ks is = tt
+  family_is (Some k) notes ps ks is = λ c earlier were. (let last = last_told notes ps ks c earlier were in last.2.node ∙ is last.0 last.1)
+
+  pub family_none : (node : Option ℕ) (notes : List (Note A)) (ps : List (List ℤ)) (ks : List (List ℕ)) → IfNone node (ForLastNote notes (λ n. kid_lists n.was ≡ 0)) → IfNone node ((c : Change A) (earlier : List (Change A)) → changes_told notes ps ks ≡ earlier ++ c ∷ [] → KeepsKids c.before)
+  family_none None notes ps ks is = λ c earlier were. (
+      let last = last_told notes ps ks c earlier were in
+      let t = last.2 in
+      subst KeepsKids (sym t.before) (keeps_kids last.0.was t.params t.kids (is last.0 last.1)))
+  family_none (Some k) notes ps ks is = tt
 
   -- one node changed, in its slot or in its lists
   pub nodes_change : (f : Stored A → Stored A) (g : Node A → Node A) (k : ℕ) (slots slots' : List (Option (Stored A))) (params params' : List (List ℤ)) (kids kids' : List (List ℕ)) → AgreeBut k slots slots' params params' kids kids' → slot_at slots' k ≡ option_map f (slot_at slots k) → ((s : Stored A) → slot_at slots k ≡ Some s → node_of (row_at params' k) (row_at kids' k) (f s) ≡ g (node_of (row_at params k) (row_at kids k) s)) → shown_nodes slots' params' kids' ≡ change g (shown_nodes slots params kids) k
@@ -104,8 +122,8 @@ module _ {A : Type 0} where
     pub answer : dropped last (shown_nodes slots p.current q.current) ≡ dropped_slot w (slot_at slots k)
     pub param_room : p.spare ≤ p'.spare
     pub kid_room : q.spare ≤ q'.spare
-    pub param_places : p'.past_places ≡ p.past_places
-    pub kid_places : q'.past_places ≡ q.past_places
+    pub past_params_room : past_room p ≤ past_room p'
+    pub past_kids_room : past_room q ≤ past_room q'
 
   live_none : (slots : List (Option (Stored A))) (k : ℕ) → live_slots (set slots k None) ≤ live_slots slots
   live_none slots k = go (slot_at slots k) refl
@@ -148,8 +166,8 @@ module _ {A : Type 0} where
         answer = answer_same (row_at p.current k) (row_at q.current k) (slot_at slots k);
         param_room = let e = ap (λ (x : Shelf ℤ). x.spare) pu.cleared in omega (arith, e);
         kid_room = let e = ap (λ (x : Shelf ℕ). x.spare) qu.cleared in omega (arith, e);
-        param_places = ap (λ (x : Shelf ℤ). x.past_places) pu.cleared;
-        kid_places = ap (λ (x : Shelf ℕ). x.past_places) qu.cleared;
+        past_params_room = let e = ap past_room pu.cleared in omega (arith, e);
+        past_kids_room = let e = ap past_room qu.cleared in omega (arith, e);
       }
   undo_done slots slots' p p' q q' notes k (was.Kind x) is sl pu qu =
       let n : Note A = record { node = k; was = was.Kind x } in
@@ -173,8 +191,8 @@ module _ {A : Type 0} where
         answer = refl;
         param_room = let e = ap (λ (y : Shelf ℤ). y.spare) pr in omega (arith, e);
         kid_room = omega arith;
-        param_places = ap (λ (y : Shelf ℤ). y.past_places) pr;
-        kid_places = refl;
+        past_params_room = let e = ap (λ (y : Shelf ℤ). y.past_places) pr in let l = ap length pp in omega (arith, e, l, pl, end.3);
+        past_kids_room = omega arith;
       })
   undo_done slots slots' p p' q q' notes k (was.Key x) is sl pu qu =
       let n : Note A = record { node = k; was = was.Key x } in
@@ -193,8 +211,8 @@ module _ {A : Type 0} where
         answer = refl;
         param_room = omega arith;
         kid_room = omega arith;
-        param_places = refl;
-        kid_places = refl;
+        past_params_room = omega arith;
+        past_kids_room = omega arith;
       }))
   undo_done slots slots' p p' q q' notes k was.Kids is sl pu qu =
       let n : Note A = record { node = k; was = was.Kids } in
@@ -218,8 +236,8 @@ module _ {A : Type 0} where
         answer = refl;
         param_room = omega arith;
         kid_room = let e = ap (λ (y : Shelf ℕ). y.spare) qr in omega (arith, e);
-        param_places = refl;
-        kid_places = ap (λ (y : Shelf ℕ). y.past_places) qr;
+        past_params_room = omega arith;
+        past_kids_room = let e = ap (λ (y : Shelf ℕ). y.past_places) qr in let l = ap length qp in omega (arith, e, l, ql, end.3);
       })
     where
       itself : (o : Option (Stored A)) → o ≡ option_map (λ (s : Stored A). s) o
@@ -242,8 +260,8 @@ module _ {A : Type 0} where
         answer = dropped_same x (row_at p.current k) (row_at q.current k) k (shown_nodes slots p.current q.current) (slot_at slots k) refl;
         param_room = omega arith;
         kid_room = omega arith;
-        param_places = refl;
-        kid_places = refl;
+        past_params_room = omega arith;
+        past_kids_room = omega arith;
       }))
 
   -- each node that lives then stands as it stood
@@ -269,8 +287,8 @@ module _ {A : Type 0} where
     pub looks : nodes_named w k q'.hand ≡ looked last
     pub answer : old_answer last ≡ noted_answer w
     pub rooms : (p'.spare ≡ p.spare) × (q'.spare ≡ q.spare)
-    pub param_places : p'.past_places ≡ p.past_places
-    pub kid_places : q'.past_places ≡ q.past_places
+    pub past_params_room : past_room p ≤ past_room p'
+    pub past_kids_room : past_room q ≤ past_room q'
 
   -- a note without a list
   take_plain : (p p' : Shelf ℤ) (q q' : Shelf ℕ) (notes : List (Note A)) (k : ℕ) (w : Was A) (b : Previous A) → param_lists w ≡ 0 → kid_lists w ≡ 0 → ((p : List (List ℤ)) (q : List (List ℕ)) → length p ≡ param_count notes → length q ≡ kid_count notes → changes_told (notes ++ record { node = k; was = w } ∷ []) p q ≡ changes_told notes p q ++ record { node = k; before = b } ∷ []) → nodes_named w k q'.hand ≡ looked (record { node = k; before = b }) → old_answer (record { node = k; before = b }) ≡ noted_answer w → IsStock (notes ++ record { node = k; was = w } ∷ []) p.past q.past → p' ≡ p → q' ≡ q → Taken p p' q q' notes k w
@@ -289,8 +307,8 @@ module _ {A : Type 0} where
         looks = looks;
         answer = answer;
         rooms = (ap (λ (x : Shelf ℤ). x.spare) pu, ap (λ (x : Shelf ℕ). x.spare) qu);
-        param_places = ap (λ (x : Shelf ℤ). x.past_places) pu;
-        kid_places = ap (λ (x : Shelf ℕ). x.past_places) qu;
+        past_params_room = let e = ap past_room pu in omega (arith, e);
+        past_kids_room = let e = ap past_room qu in omega (arith, e);
       }
 
   pub take_done : (p p' : Shelf ℤ) (q q' : Shelf ℕ) (notes : List (Note A)) (k : ℕ) (w : Was A) → IsStock (notes ++ record { node = k; was = w } ∷ []) p.past q.past → DropsParams w p p' → TakesKids w q q' → Taken p p' q q' notes k w
@@ -314,8 +332,8 @@ module _ {A : Type 0} where
         looks = refl;
         answer = refl;
         rooms = (ap (λ (x : Shelf ℤ). x.spare) pr, ap (λ (x : Shelf ℕ). x.spare) qu);
-        param_places = ap (λ (x : Shelf ℤ). x.past_places) pr;
-        kid_places = ap (λ (x : Shelf ℕ). x.past_places) qu;
+        past_params_room = let e = ap (λ (y : Shelf ℤ). y.past_places) pr in let l = ap length pp in omega (arith, e, l, pl, end.3);
+        past_kids_room = let e = ap past_room qu in omega (arith, e);
       }
   take_done p p' q q' notes k was.Kids is pu qu =
       let n : Note A = record { node = k; was = was.Kids } in
@@ -334,8 +352,8 @@ module _ {A : Type 0} where
         looks = ap (λ (x : Shelf ℕ). x.hand) qr;
         answer = refl;
         rooms = (ap (λ (x : Shelf ℤ). x.spare) pu, ap (λ (x : Shelf ℕ). x.spare) qr);
-        param_places = ap (λ (x : Shelf ℤ). x.past_places) pu;
-        kid_places = ap (λ (x : Shelf ℕ). x.past_places) qr;
+        past_params_room = let e = ap past_room pu in omega (arith, e);
+        past_kids_room = let e = ap (λ (y : Shelf ℕ). y.past_places) qr in let l = ap length qp in omega (arith, e, l, ql, end.3);
       }
 
   -- the last change, before it is undone or taken up

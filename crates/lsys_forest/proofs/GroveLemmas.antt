@@ -1,5 +1,5 @@
 -- The calls keep the invariant of a forest.
-use Rattle.std.proofs.Common.{◌≡◌, ◌+◌, ◌<◌, ◌≤◌, ◌^◌, ℕ, List, [], length, Some, None, refl, sym, ap, ◌∙◌, arith, inl, inr, subst}
+use Rattle.std.proofs.Common.{◌≡◌, ◌+◌, ◌<◌, ◌≤◌, ◌^◌, ℕ, List, [], Some, None, refl, sym, ap, ◌∙◌, arith, inl, inr, subst}
 use Rattle.std.proofs.lemmas.Bool.{cases_eq}
 use Rattle.lsys_forest.proofs.StockLemmas.{put_same, put_other}
 use Rattle.std.proofs.lemmas.Option.{none-some, same_Some}
@@ -27,7 +27,7 @@ module _ {A : Type 0} where
         nodes_left = omega (arith, j.live, j.capacity, grove.nodes_left);
         numbers = omega (arith, j.live, grove.numbers);
         fit = λ some. (let f = grove.fit some in omega (arith, f, j.capacity));
-        places_left = omega (arith, j.live, j.notes, j.places, fewer, grove.places_left);
+        notes_left = omega (arith, j.live, j.note_room, fewer, grove.notes_left);
       }
 
   pub set_rested : (old new : Stock A) (root k : ℕ) (was n : Node A) (before : Previous A) (params kids : ℕ) → IsSet root (changes_of old) (record { node = k; before = before }) (nodes_of old) k was n → Journals old new k (Some n) before 0 params kids → undone (changes_of new) (nodes_of new) ≡ undone (changes_of old) (nodes_of old)
@@ -48,26 +48,26 @@ module _ {A : Type 0} where
         nodes_left = omega (arith, j.live, j.capacity, fewer, grove.nodes_left);
         numbers = omega (arith, j.live, fewer, grove.numbers);
         fit = λ some. (let f = grove.fit (omega (arith, some, fewer)) in omega (arith, f, j.capacity));
-        places_left = omega (arith, j.live, j.notes, j.places, fewer, lower, grove.places_left);
+        notes_left = omega (arith, j.live, j.note_room, fewer, lower, grove.notes_left);
       }
 
-  pub IsGrove-room : (old new : Stock A) (root nodes notes more more' : ℕ) → nodes_of new ≡ nodes_of old → changes_of new ≡ changes_of old → length new.notes ≡ length old.notes → live_slots new.slots ≡ live_slots old.slots → live_slots new.slots + more ≤ new.capacity → live_slots new.slots + more < 2 ^ 32 → (0 < more → new.capacity ≤ 2 ^ 32) → length new.notes + live_slots new.slots + more + more' ≤ new.places → IsGrove old root nodes notes → IsGrove new root more more'
-  IsGrove-room old new root nodes notes more more' same kept long live cap numbers fit places grove = record {
+  pub IsGrove-room : (old new : Stock A) (root nodes notes more more' : ℕ) → nodes_of new ≡ nodes_of old → changes_of new ≡ changes_of old → live_slots new.slots + more ≤ new.capacity → live_slots new.slots + more < 2 ^ 32 → (0 < more → new.capacity ≤ 2 ^ 32) → live_slots new.slots + more + more' ≤ new.note_room → IsGrove old root nodes notes → IsGrove new root more more'
+  IsGrove-room old new root nodes notes more more' same kept cap numbers fit left grove = record {
     sound = subst (λ (m : Nodes A). AreSound root (changes_of new) m) (sym same) (subst (λ (cs : List (Change A)). AreSound root cs (nodes_of old)) (sym kept) grove.sound);
     nodes_left = cap;
     numbers = numbers;
     fit = fit;
-    places_left = places;
+    notes_left = left;
   }
 
   -- after all changes were undone, or taken up
-  pub IsGrove-rest : (old new : Stock A) (root nodes notes : ℕ) → IsRooted root [] (nodes_of new) → changes_of new ≡ [] → length new.notes ≡ 0 → live_slots new.slots ≤ live_slots old.slots → KeepsRoom old new → IsGrove old root nodes notes → IsGrove new root nodes notes
-  IsGrove-rest old new root nodes notes sound none short live room grove = record {
+  pub IsGrove-rest : (old new : Stock A) (root nodes notes : ℕ) → IsRooted root [] (nodes_of new) → changes_of new ≡ [] → live_slots new.slots ≤ live_slots old.slots → KeepsRoom old new → IsGrove old root nodes notes → IsGrove new root nodes notes
+  IsGrove-rest old new root nodes notes sound none live room grove = record {
     sound = subst (λ (cs : List (Change A)). AreSound root cs (nodes_of new)) (sym none) (AreSound-rest root (nodes_of new) sound);
     nodes_left = omega (arith, live, room.capacity, grove.nodes_left);
     numbers = omega (arith, live, grove.numbers);
     fit = λ some. (let f = grove.fit some in omega (arith, f, room.capacity));
-    places_left = omega (arith, live, short, room.places, grove.places_left);
+    notes_left = omega (arith, room.note_room, grove.notes_left);
   }
 
   -- the root alone

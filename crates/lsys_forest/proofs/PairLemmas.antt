@@ -1,5 +1,8 @@
 -- Mates are found on a row from the left to the right.
-use Rattle.std.proofs.Common.{◌≡◌, ◌≢◌, ℕ, zero, suc, List, [], ◌∷◌, ◌++◌, Option, Some, None, refl, sym, ap, ◌∙◌, arith, inl, inr, subst}
+use Rattle.lsys_forest.specs.declared.node.Kind.{Kind}
+use Rattle.lsys_forest.specs.declared.node.Kind.TheVariants as kind
+use Rattle.lsys_forest.specs.Nodes.{seen_as}
+use Rattle.std.proofs.Common.{◌≡◌, ◌≢◌, ℕ, zero, suc, List, [], ◌∷◌, ◌++◌, Option, Some, None, refl, sym, ap, ◌∙◌, arith, inl, inr, subst, ℤ}
 use Rattle.std.specs.Option.{option_and_then}
 use Rattle.std.proofs.lemmas.Bool.{cases_eq}
 use Rattle.std.proofs.lemmas.List.{append-nil}
@@ -318,6 +321,14 @@ pub open_in : (seen : ℕ → Seen) (passed : List ℕ) (footings : List Footing
 open_in seen passed footings opener k was e =
     let b = begun_at seen 0 (mirrored passed) k (sym was.open_is ∙ e) in
     oriented_In_back Left k passed (subst (In k) (sym b.whole) (In_right k b.inner (k ∷ b.rest) (inl refl)))
+
+-- the sort of a symbol is that of its kind, whatever its parameters
+pub sort_of : (k : Kind) (params params' : List ℤ) (s : Seen) → AreSameSort (seen_as k params) s → AreSameSort (seen_as k params') s
+sort_of kind.Push params params' s same = same
+sort_of kind.Pop params params' s same = same
+sort_of (kind.Module name) params params' Push same = same
+sort_of (kind.Module name) params params' Pop same = same
+sort_of (kind.Module name) params params' (Module v) same = tt
 
 pub same_sort : (s t : Seen) → s ≡ t → AreSameSort s t
 same_sort s t e = subst (AreSameSort s) e (go s)

@@ -1,5 +1,5 @@
 -- What the calls of the parts do, where a note was written or taken.
-use Rattle.std.proofs.Common.{◌≡◌, ◌≤◌, ℕ, ℤ, List, [], ◌∷◌, ◌++◌, length, map, Some, refl, ap, ◌∙◌, arith}
+use Rattle.std.proofs.Common.{◌≡◌, ◌≤◌, ℕ, ℤ, List, [], ◌∷◌, ◌++◌, length, map, Some, refl, ap, ◌∙◌, arith, ◌+◌}
 use Rattle.std.proofs.lemmas.List.{length_push}
 use Rattle.lsys_forest.specs.declared.node.Stored.{Stored}
 use Rattle.lsys_forest.specs.declared.note.Note.{Note}
@@ -27,8 +27,8 @@ module _ {A : Type 0} (t : SlotTable A) (p : Hoard ℤ) (q : Hoard ℕ) (notes n
     stock = IsStock-note notes notes' (record { node = k; was = w }) (map (run_list p.pool) p.past) (map (run_list p.pool) p.past) (map (run_list q.pool) q.past) (map (run_list q.pool) q.past) pushed (omega (arith, p0)) (omega (arith, q0)) are.stock;
   }
 
-  pub journal_slot : (f : Stored A → Stored A) (g : Node A → Node A) → ((x : List ℤ) (y : List ℕ) (s : Stored A) → node_of x y (f s) ≡ g (node_of x y s)) → (places places' : ℕ) (before : Previous A) (n : Node A) → notes' ≡ notes ++ record { node = k; was = w } ∷ [] → places ≤ places' → AreStockParts t p q notes → shown_nodes t.slots rows_of kids_of k ≡ Some n → before_of w [] [] ≡ before → Journals (stock_of t p q notes places) (stock_of (record t { slots = change_slot f t.slots k }) p q notes' places') k (Some (g n)) before 0 0 0
-  journal_slot f g fits places places' before n pushed more are is was = record {
+  pub journal_slot : (f : Stored A → Stored A) (g : Node A → Node A) → ((x : List ℤ) (y : List ℕ) (s : Stored A) → node_of x y (f s) ≡ g (node_of x y s)) → (room room' : ℕ) (before : Previous A) (n : Node A) → notes' ≡ notes ++ record { node = k; was = w } ∷ [] → room ≤ room' + 1 → AreStockParts t p q notes → shown_nodes t.slots rows_of kids_of k ≡ Some n → before_of w [] [] ≡ before → Journals (stock_of t p q (record { notes = notes; room = room })) (stock_of (record t { slots = change_slot f t.slots k }) p q (record { notes = notes'; room = room' })) k (Some (g n)) before 0 0 0
+  journal_slot f g fits room room' before n pushed more are is was = record {
     nodes = nodes_changed f g fits t.slots (change_slot f t.slots k) rows_of kids_of k n is refl;
     noted =
         ap (λ ns. changes_told ns (map (run_list p.pool) p.past) (map (run_list q.pool) q.past)) pushed
@@ -37,7 +37,7 @@ module _ {A : Type 0} (t : SlotTable A) (p : Hoard ℤ) (q : Hoard ℕ) (notes n
     notes = ap length pushed ∙ length_push notes _;
     live = let same = live_change f t.slots k in omega (arith, same);
     capacity = refl;
-    places = omega (arith, more);
+    note_room = omega (arith, more);
     param_room = omega arith;
     kid_room = omega arith;
     hand = refl;

@@ -1,4 +1,5 @@
 -- In which runs the lists of a stock stand.
+use Rattle.lsys_forest.specs.Notes.{Notes}
 use Rattle.std.proofs.Common.{◌≡◌, ℕ, ℤ, List, [], ◌∷◌, length, get_or, Option, Some, None, refl, sym, ap, ◌∙◌, arith}
 use Rattle.std.specs.Prelude.{option_map}
 use Rattle.std.proofs.lemmas.Option.{none-some}
@@ -35,9 +36,9 @@ module _ {A : Type 0} where
   no_notes [] params kids h = refl
   no_notes (n ∷ notes) params kids h = cc
 
-  module _ (t : SlotTable A) (p : Hoard ℤ) (q : Hoard ℕ) (notes : List (Note A)) (places : ℕ) (parts : AreStockParts t p q notes) where
+  module _ (t : SlotTable A) (p : Hoard ℤ) (q : Hoard ℕ) (j : Notes A) (parts : AreStockParts t p q j.notes) where
     abbrev stock : Stock A
-    stock = stock_of t p q notes places
+    stock = stock_of t p q j
 
     module _ (vacant : HasNoVacantRuns t) where
       pub params_stand : StandIn (nodes_of stock) stock.params stock.past_params p.pool
@@ -63,7 +64,7 @@ module _ {A : Type 0} where
       }
 
     pub no_past_params : changes_of stock ≡ [] → stock.past_params ≡ []
-    no_past_params h = empty stock.past_params (parts.stock.past_params_long ∙ ap param_count (no_notes notes stock.past_params stock.past_kids h))
+    no_past_params h = empty stock.past_params (parts.stock.past_params_long ∙ ap param_count (no_notes j.notes stock.past_params stock.past_kids h))
 
     pub no_past_kids : changes_of stock ≡ [] → stock.past_kids ≡ []
-    no_past_kids h = empty stock.past_kids (parts.stock.past_kids_long ∙ ap kid_count (no_notes notes stock.past_params stock.past_kids h))
+    no_past_kids h = empty stock.past_kids (parts.stock.past_kids_long ∙ ap kid_count (no_notes j.notes stock.past_params stock.past_kids h))

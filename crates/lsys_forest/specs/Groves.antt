@@ -108,7 +108,7 @@ module _ {A : Type 0} where
     pub nodes_left : live_slots stock.slots + spare_nodes ≤ stock.capacity
     pub numbers : live_slots stock.slots + spare_nodes < 2 ^ 32
     pub fit : 0 < spare_nodes → stock.capacity ≤ 2 ^ 32
-    pub places_left : length stock.notes + live_slots stock.slots + spare_nodes + spare_notes ≤ stock.places
+    pub notes_left : live_slots stock.slots + spare_nodes + spare_notes ≤ stock.note_room
 
   -- one node became this one, and nothing else changed; the last rest stays
   pub record Sets (old new : Grove A) (k : ℕ) (node : Node A) : Type 0 where

@@ -10,6 +10,7 @@ use Rattle.lsys_forest.specs.Nodes.{Nodes}
 use Rattle.lsys_forest.specs.Rows.{oriented, level_nodes, spot_in}
 use Rattle.lsys_forest.specs.Mates.{one_less}
 use Rattle.lsys_forest.specs.Ranks.{KeepsLinks}
+use Rattle.lsys_forest.specs.Stocks.{Stock, nodes_of}
 
 -- how many branches are open behind a symbol, that way; none where the symbol ends the branch that is walked along
 abbrev pub turned : Way → Seen → ℕ → Option ℕ
@@ -86,6 +87,11 @@ module _ {A : Type 0} where
   -- what is seen of a node
   abbrev pub seen_at : Nodes A → ℕ → Seen
   seen_at m k = (spot_in k (m k)).seen
+
+  -- a node was passed behind these open brackets
+  abbrev pub PairsIn : Stock A → Stock A → Option ℕ → ℕ → Option ℕ → Type 0
+  PairsIn old new opener node next =
+      Pairs (seen_at (nodes_of old) node) old.footings new.footings opener node next
 
   -- On each of so many levels, from the first one on, the mate of each bracket stands at it.
   abbrev pub AreMated : Nodes A → ℕ → List Footing → ℕ → Type 0

@@ -6,7 +6,8 @@ use Rattle.lsys_forest.specs.declared.node.Footing.{Footing}
 use Rattle.lsys_forest.specs.declared.note.Note.{Note}
 use Rattle.lsys_forest.specs.declared.note.Was.{Was}
 use Rattle.lsys_forest.specs.declared.note.Was.TheVariants as was
-use Rattle.lsys_forest.specs.Shelves.{Shelf, Hoard, run_list, IsOwner}
+use Rattle.lsys_forest.specs.Shelves.{Shelf, Hoard, run_list, shelf_of, past_room, IsOwner}
+use Rattle.lsys_forest.specs.Notes.{Notes}
 use Rattle.lsys_forest.specs.declared.note.Look.{Look}
 use Rattle.lsys_forest.specs.declared.note.Look.TheVariants as look
 use Rattle.lsys_forest.specs.Slots.{SlotTable, slot_at, no_footing, footing_at, live_slots, change_slot, kind_set, key_set, answer_set, answer_before}
@@ -16,7 +17,7 @@ use Rattle.std.specs.Option.{option_and_then}
 use Rattle.lsys_forest.specs.Changes.{Previous, Missing, OldSeen, OldKey, OldKids, OldAnswer, Change, undo}
 
 -- Nodes without parameters and children, these beside them by number, and where they stand; notes without lists, these in turn; the
--- list in hand; and how much room there is for nodes, for notes, and for lists.
+-- list in hand; and how much room there is for nodes, for notes more, and for lists.
 pub record Stock (A : Type 0) : Type 0 where
   pub slots : List (Option (Stored A))
   pub params : List (List ℤ)
@@ -27,7 +28,7 @@ pub record Stock (A : Type 0) : Type 0 where
   pub past_kids : List (List ℕ)
   pub hand : List ℕ
   pub capacity : ℕ
-  pub places : ℕ
+  pub note_room : ℕ
   pub param_room : ℕ
   pub kid_room : ℕ
 
@@ -146,19 +147,19 @@ module _ {A : Type 0} where
     pub past_params_long : length past_params ≡ param_count notes
     pub past_kids_long : length past_kids ≡ kid_count notes
 
-  -- the parts, where the notes have so many places
-  abbrev pub stock_of : SlotTable A → Hoard ℤ → Hoard ℕ → List (Note A) → ℕ → Stock A
-  stock_of t p q notes places = record {
+  -- the parts
+  abbrev pub stock_of : SlotTable A → Hoard ℤ → Hoard ℕ → Notes A → Stock A
+  stock_of t p q j = record {
     slots = t.slots;
     params = map (run_list p.pool) t.param_runs;
     kids = map (run_list q.pool) t.kid_runs;
     footings = t.footings;
-    notes = notes;
+    notes = j.notes;
     past_params = map (run_list p.pool) p.past;
     past_kids = map (run_list q.pool) q.past;
     hand = run_list q.pool q.hand;
     capacity = t.capacity;
-    places = min places (min p.past_places q.past_places);
+    note_room = min j.room (min (past_room (shelf_of p t.param_runs)) (past_room (shelf_of q t.kid_runs)));
     param_room = p.pool.spare;
     kid_room = q.pool.spare;
   }
@@ -181,16 +182,16 @@ module _ {A : Type 0} where
     pub notes : length new.notes ≡ length old.notes + 1
     pub live : live_slots new.slots ≡ live_slots old.slots + born
     pub capacity : new.capacity ≡ old.capacity
-    pub places : old.places ≤ new.places
+    pub note_room : old.note_room ≤ new.note_room + 1
     pub param_room : old.param_room ≤ new.param_room + params
     pub kid_room : old.kid_room ≤ new.kid_room + kids
     pub hand : new.hand ≡ old.hand
     pub footings : KeepsFootings (nodes_of old) old new
 
-  -- there is room as before
+  -- there is room as before, and for one note more for each node that is gone no more than that less
   pub record KeepsRoom (old new : Stock A) : Type 0 where
     pub capacity : new.capacity ≡ old.capacity
-    pub places : old.places ≤ new.places
+    pub note_room : old.note_room + live_slots new.slots ≤ new.note_room + live_slots old.slots
     pub param_room : old.param_room ≤ new.param_room
     pub kid_room : old.kid_room ≤ new.kid_room
 

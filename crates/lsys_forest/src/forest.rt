@@ -499,7 +499,7 @@ fn way_to_mate(kind: Kind) -> Way
 /// place of one of this kind: on all of them, where both are the same bracket or modules.
 fn mated_still(mated: u32, depth: u32, kind: Kind, symbol: &Symbol) -> u32
     ensures fewer { result ≤ mated }
-    ensures sort { (params : List ℤ) → AreSameSort (seen_as kind params) (seen_in symbol.now) ⊎ (result ≤ depth - 1) }
+    ensures sort { AreSameSort (seen_as kind []) (seen_in symbol.now) ⊎ (result ≤ depth - 1) }
 {
     match (kind, symbol) {
         (Kind::Push, Symbol::Push) => mated,
@@ -540,7 +540,6 @@ fn undo_all<A: Kept>(parts: &mut Parts<A>, root: NodeId, linked: &mut u32, store
     requires made { LiveApart A.run_at A.Holds store.old (answers_in parts.old) }
     ensures nodes { nodes_of parts.new ≡ undone (changes_of parts.old) (nodes_of parts.old) }
     ensures empty { changes_of parts.new ≡ [] }
-    ensures short { length parts.new.notes ≡ 0 }
     ensures live { live_slots parts.new.slots ≤ live_slots parts.old.slots }
     ensures room { KeepsRoom parts.old parts.new }
     ensures ranked { AreRanked (nodes_of parts.new) parts.new.footings }

@@ -6,6 +6,7 @@
 #![tactic(auto)]
 
 mod forest;
+mod journal;
 mod kept;
 mod law;
 mod link;

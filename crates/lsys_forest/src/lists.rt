@@ -48,7 +48,7 @@ impl<T: Copy> Lists<T> {
         }
     }
 
-    /// Makes room for so many cells of lists more, and for so many past lists in all.
+    /// Makes room for so many past lists more, and for so many cells of lists more.
     ///
     /// # Errors
     ///
@@ -57,13 +57,12 @@ impl<T: Copy> Lists<T> {
         ensures kept { KeepsPastAndHand self.old self.new }
         ensures pool { self.new.pool ≡ record self.old.pool { spare = self.new.pool.spare } }
         ensures spare { OnOk result (cells ≤ self.new.pool.spare) }
-        ensures places { OnOk result (past ≤ self.new.past_places) }
+        ensures places { OnOk result (length self.new.past + past ≤ self.new.past_places) }
         ensures more_spare { self.old.pool.spare ≤ self.new.pool.spare }
         ensures more_places { self.old.past_places ≤ self.new.past_places }
     {
         self.region.reserve(cells)?;
-        let more = past.saturating_sub(self.past.len());
-        self.past.reserve(more)
+        self.past.reserve(past)
     }
 
     /// The region.

@@ -5,7 +5,7 @@ ghost use Rattle.lsys_level.specs.Spots.{Pop};
 ghost use Rattle.lsys_forest.specs.Stocks.{nodes_of, changes_of};
 ghost use Rattle.lsys_forest.specs.Groves.{IsRooted};
 ghost use Rattle.lsys_forest.specs.Ranks.{AreRanked, AreLinked, IsApartFrom};
-ghost use Rattle.lsys_forest.specs.Pairs.{AreMated, Pairs, seen_at};
+ghost use Rattle.lsys_forest.specs.Pairs.{AreMated, PairsIn, seen_at};
 ghost use Rattle.lsys_forest.specs.Rows.{level_nodes};
 
 use crate::kept::Kept;
@@ -75,7 +75,7 @@ fn pair<A: Kept>(parts: &mut Parts<A>, node: NodeId, opener: Option<NodeId>) -> 
     requires lives { IsSome (nodes_of parts.old node) }
     requires opener { IsApartFrom (nodes_of parts.old) (node ∷ []) opener }
     ensures same { parts.new ≡ record parts.old { footings = parts.new.footings } }
-    ensures paired { Pairs (seen_at (nodes_of parts.old) node) parts.old.footings parts.new.footings opener node result }
+    ensures paired { PairsIn parts.old parts.new opener node result }
 {
     let kind = parts.kind(node);
     match kind {
@@ -91,9 +91,10 @@ fn pair<A: Kept>(parts: &mut Parts<A>, node: NodeId, opener: Option<NodeId>) -> 
 /// Passes a bracket that ends a branch: it and the one that began the branch get each other as mates.
 fn end_branch<A: Kept>(parts: &mut Parts<A>, node: NodeId, opener: Option<NodeId>) -> Option<NodeId>
     requires lives { IsSome (nodes_of parts.old node) }
+    requires ends { seen_at (nodes_of parts.old) node ≡ Pop }
     requires opener { IsApartFrom (nodes_of parts.old) (node ∷ []) opener }
     ensures same { parts.new ≡ record parts.old { footings = parts.new.footings } }
-    ensures paired { Pairs Pop parts.old.footings parts.new.footings opener node result }
+    ensures paired { PairsIn parts.old parts.new opener node result }
 {
     match opener {
         Some(begin) => {

@@ -1,5 +1,5 @@
 //! The parts of a forest: its nodes, their lists, and the journal.
-ghost use Rattle.std.specs.Prelude.{◌≡◌, ◌≢◌, ◌↔◌, ℕ, ◌+◌, ◌<◌, ◌≤◌, ◌^◌, ◌++◌, ◌∷◌, [], length, List, Option, Some, None, IsSome, IfOk, IfSome, IfNone, IsTrue, OnOk, option_copied, false, vec_len, vec_capacity};
+ghost use Rattle.std.specs.Prelude.{◌≡◌, ◌≢◌, ◌↔◌, ℕ, ◌+◌, ◌<◌, ◌≤◌, ◌^◌, [], length, List, Option, Some, None, IsSome, IfOk, IfSome, IfNone, IsTrue, OnOk, option_copied, false};
 ghost use Rattle.lsys_module.specs.declared.symbol.Symbol.TheVariants.{Cut};
 ghost use Rattle.lsys_level.specs.Places.{seen_in, params_in};
 ghost use Rattle.lsys_level.specs.Views.{seen_of};
@@ -12,7 +12,7 @@ ghost use Rattle.lsys_forest.specs.Answers.{old_answer, Lives, Releases};
 ghost use Rattle.lsys_forest.specs.Groves.{HasFew, IsRooted};
 ghost use Rattle.lsys_forest.specs.Nodes.{Node, root_node, with_node, ForNode};
 ghost use Rattle.lsys_forest.specs.Changes.{KeepsKids, Missing};
-ghost use Rattle.lsys_forest.specs.Stocks.{nodes_of, changes_of, row_at, KeepsRoom, KeepsFootings, undone_slots, undone_footings, DropsParams, TakesKids, noted_answer, nodes_named, named_by, kid_lists};
+ghost use Rattle.lsys_forest.specs.Stocks.{nodes_of, changes_of, row_at, KeepsRoom, KeepsFootings, undone_slots, undone_footings, DropsParams, TakesKids, noted_answer, nodes_named, named_by};
 ghost use Rattle.lsys_forest.specs.Ranks.{LinksRow, KeepsLinks, KeepsMates, IsApartFrom, RanksKidsOf};
 ghost use Rattle.lsys_forest.specs.Rows.{depth_in};
 ghost use Rattle.lsys_forest.specs.LastChange.{ForLastChange, StaysUnchanged, UndoDropsMade, GoesBack, TakesOneUp, RemovesNode};
@@ -22,6 +22,7 @@ ghost use Rattle.lsys_forest.specs.SlotChanges.{KeepsOtherFootings};
 ghost use Rattle.lsys_forest.specs.Neighbours.{kids_kept};
 ghost use Rattle.lsys_forest.specs.Regions.{StandIn};
 
+use crate::journal::Journal;
 use crate::kept::{Kept, release_one};
 use crate::lists::Lists;
 use crate::node::{Kind, NodeId, Stored, kind_of, params_of, root_stored};
@@ -43,18 +44,17 @@ pub(crate) struct Parts<A> {
     table: Table<A>,
     params: Lists<i64>,
     kids: Lists<NodeId>,
-    notes: Vec<Note<A>>,
+    journal: Journal<A>,
 }
 
 impl<A> Model for Parts<A> {
-    ghost use Rattle.std.specs.Prelude.{vec_capacity};
     ghost use Rattle.lsys_forest.specs.Stocks.{Stock, stock_of, AreStockParts};
 
     ghost Value = { Stock A };
 
-    ghost view = { λ a. stock_of a.table a.params a.kids a.notes.items (vec_capacity a.notes) };
+    ghost view = { λ a. stock_of a.table a.params a.kids a.journal };
 
-    ghost invariant = { λ a. AreStockParts a.table a.params a.kids a.notes.items };
+    ghost invariant = { λ a. AreStockParts a.table a.params a.kids a.journal.notes };
 }
 
 impl<A: Drop> Parts<A> {
@@ -66,10 +66,9 @@ impl<A: Drop> Parts<A> {
     pub(crate) fn of_root(alloc: Global) -> Result<Parts<A>, AllocError>
         ensures nodes { IfOk result (λ p. nodes_of p ≡ with_node (λ k. None) 0 (Some (root_node 0))) }
         ensures changes { IfOk result (λ p. changes_of p ≡ []) }
-        ensures notes { IfOk result (λ p. length p.notes ≡ 0) }
         ensures live { IfOk result (λ p. live_slots p.slots ≡ 1) }
         ensures capacity { IfOk result (λ p. 1 ≤ p.capacity) }
-        ensures places { IfOk result (λ p. 1 ≤ p.places) }
+        ensures notes { IfOk result (λ p. 1 ≤ p.note_room) }
     {
         let mut table = Table::new(alloc);
         table.reserve(1)?;
@@ -80,7 +79,7 @@ impl<A: Drop> Parts<A> {
             table,
             params,
             kids,
-            notes: Vec::new(alloc),
+            journal: Journal::new(alloc),
         };
         parts.reserve(0, 0, 1)?;
         Ok(parts)
@@ -100,18 +99,16 @@ impl<A: Drop> Parts<A> {
         ensures nodes { nodes_of self.new ≡ nodes_of self.old }
         ensures changes { changes_of self.new ≡ changes_of self.old }
         ensures footings { self.new.footings ≡ self.old.footings }
-        ensures notes { length self.new.notes ≡ length self.old.notes }
         ensures live { live_slots self.new.slots ≡ live_slots self.old.slots }
         ensures keeps { KeepsRoom self.old self.new }
-        ensures places { OnOk result (length self.new.notes + notes ≤ self.new.places) }
+        ensures notes { OnOk result (notes ≤ self.new.note_room) }
         ensures param_room { OnOk result (params ≤ self.new.param_room) }
         ensures kid_room { OnOk result (kids ≤ self.new.kid_room) }
-        ensures fits { OnOk result (length self.new.notes + notes < 2 ^ 63) }
+        ensures fits { OnOk result (notes < 2 ^ 63) }
     {
-        self.notes.reserve(notes)?;
-        let places = self.notes.len() + notes;
-        self.params.reserve(places, params)?;
-        self.kids.reserve(places, kids)
+        self.journal.reserve(notes)?;
+        self.params.reserve(notes, params)?;
+        self.kids.reserve(notes, kids)
     }
 
     /// Makes room for so many nodes more.
@@ -155,10 +152,7 @@ impl<A: Drop> Parts<A> {
         ensures some { IfSome result (λ k. ForLastChange self.now (λ c. c.node ≡ k)) }
         ensures none { IfNone result (ForLastChange self.now (λ c. KeepsKids c.before)) }
     {
-        match self.notes.last() {
-            Some(note) => family_of(note),
-            None => None,
-        }
+        self.journal.last_family()
     }
 
     /// A node without its lists, if it lives.
@@ -288,7 +282,7 @@ impl<A: Drop> Parts<A> {
         requires whole { symbol.now ≢ Cut }
         requires capacity { live_slots self.old.slots < self.old.capacity }
         requires numbers { self.old.capacity ≤ 2 ^ 32 }
-        requires place { length self.old.notes < self.old.places }
+        requires place { 0 < self.old.note_room }
         requires room { list_room (params_in symbol.now) ≤ self.old.param_room }
         ensures vacant { nodes_of self.old result ≡ None }
         ensures few { HasFew (seen_in symbol.now) }
@@ -310,13 +304,10 @@ impl<A: Drop> Parts<A> {
             stored,
             params_of(symbol),
         );
-        push_note(
-            &mut self.notes,
-            Note {
-                node: number,
-                was: Was::Missing,
-            },
-        );
+        self.journal.push(Note {
+            node: number,
+            was: Was::Missing,
+        });
         number
     }
 
@@ -324,7 +315,7 @@ impl<A: Drop> Parts<A> {
     pub(crate) fn set_symbol(&mut self, node: NodeId, symbol: &Symbol)
         requires lives { IsSome (nodes_of self.old node) }
         requires whole { symbol.now ≢ Cut }
-        requires place { length self.old.notes < self.old.places }
+        requires place { 0 < self.old.note_room }
         requires room { list_room (params_in symbol.now) ≤ self.old.param_room }
         ensures few { HasFew (seen_in symbol.now) }
         ensures set { JournalsSymbol self.old self.new node symbol.now }
@@ -333,64 +324,52 @@ impl<A: Drop> Parts<A> {
             unreachable!()
         };
         swap_params(&mut self.table, &mut self.params, node, params_of(symbol));
-        push_note(
-            &mut self.notes,
-            Note {
-                node,
-                was: Was::Kind(kind),
-            },
-        );
+        self.journal.push(Note {
+            node,
+            was: Was::Kind(kind),
+        });
     }
 
     /// Sets a key, and notes the one before. It takes no memory.
     pub(crate) fn set_key(&mut self, node: NodeId, key: u64)
         requires lives { IsSome (nodes_of self.old node) }
-        requires place { length self.old.notes < self.old.places }
+        requires place { 0 < self.old.note_room }
         ensures { JournalsKey self.old self.new node key }
     {
         let Some(before) = self.table.swap_key(node, key) else {
             unreachable!()
         };
-        push_note(
-            &mut self.notes,
-            Note {
-                node,
-                was: Was::Key(before),
-            },
-        );
+        self.journal.push(Note {
+            node,
+            was: Was::Key(before),
+        });
     }
 
     /// Sets an answer, and notes the one before. It takes no memory.
     pub(crate) fn set_answer(&mut self, node: NodeId, answer: Option<A>)
         requires lives { IsSome (nodes_of self.old node) }
-        requires place { length self.old.notes < self.old.places }
+        requires place { 0 < self.old.note_room }
         ensures { JournalsAnswer self.old self.new node answer }
     {
         let before = self.table.swap_answer(node, answer);
-        push_note(
-            &mut self.notes,
-            Note {
-                node,
-                was: Was::Answer(before),
-            },
-        );
+        self.journal.push(Note {
+            node,
+            was: Was::Answer(before),
+        });
     }
 
     /// Sets the children, and notes those before. It takes no memory.
     pub(crate) fn set_kids(&mut self, node: NodeId, kids: &[NodeId])
         requires lives { IsSome (nodes_of self.old node) }
-        requires place { length self.old.notes < self.old.places }
+        requires place { 0 < self.old.note_room }
         requires room { list_room kids.now ≤ self.old.kid_room }
         ensures { JournalsKids self.old self.new node kids.now }
     {
         swap_kids(&mut self.table, &mut self.kids, node, kids);
-        push_note(
-            &mut self.notes,
-            Note {
-                node,
-                was: Was::Kids,
-            },
-        );
+        self.journal.push(Note {
+            node,
+            was: Was::Kids,
+        });
     }
 
     /// Gives the children of a node their ranks, if it lives.
@@ -423,14 +402,14 @@ impl<A: Drop> Parts<A> {
         }
     }
 
-    /// Sets the mate that stands at a node that lives.
-    pub(crate) fn set_mate(&mut self, node: NodeId, mate: Option<NodeId>)
+    /// Sets the mate that stands at a node that lives to this one.
+    pub(crate) fn set_mate(&mut self, node: NodeId, to: Option<NodeId>)
         requires lives { IsSome (nodes_of self.old node) }
         ensures same { self.new ≡ record self.old { footings = self.new.footings } }
-        ensures here { footing_at self.new.footings node ≡ mate_set mate (footing_at self.old.footings node) }
+        ensures here { footing_at self.new.footings node ≡ mate_set to (footing_at self.old.footings node) }
         ensures others { KeepsOtherFootings node self.old.footings self.new.footings }
     {
-        self.table.set_mate(node, mate);
+        self.table.set_mate(node, to);
     }
 }
 
@@ -443,7 +422,7 @@ impl<A: Kept> Parts<A> {
         ensures none { result ≡ false → StaysUnchanged self.old self.new store.old store.new }
         ensures footings { KeepsFootings (nodes_of self.new) self.old self.new }
     {
-        match self.notes.pop() {
+        match self.journal.pop() {
             Some(note) => {
                 undo_note(
                     &mut self.table,
@@ -465,7 +444,7 @@ impl<A: Kept> Parts<A> {
         ensures taken { IfSome result (TakesOneUp A.run_at A.Holds self.old self.new store.old store.new) }
         ensures none { IfNone result (StaysUnchanged self.old self.new store.old store.new) }
     {
-        match self.notes.pop() {
+        match self.journal.pop() {
             Some(note) => Some(take_note(&mut self.params, &mut self.kids, note, store)),
             None => None,
         }
@@ -474,18 +453,15 @@ impl<A: Kept> Parts<A> {
     /// Removes a node, releases its answer, and notes its children. It takes no memory.
     pub(crate) fn remove(&mut self, node: NodeId, store: &mut A::Store)
         requires lives { IsSome (nodes_of self.old node) }
-        requires place { length self.old.notes < self.old.places }
+        requires place { 0 < self.old.note_room }
         requires made { ForNode (nodes_of self.old) node (λ n. Lives A.run_at A.Holds store.old n.answer) }
         ensures { RemovesNode A.run_at A.Holds self.old self.new node store.old store.new }
     {
         let removed = take_out(&mut self.table, &mut self.params, &mut self.kids, node);
-        push_note(
-            &mut self.notes,
-            Note {
-                node,
-                was: Was::Kids,
-            },
-        );
+        self.journal.push(Note {
+            node,
+            was: Was::Kids,
+        });
         release_one(removed.answer, store);
     }
 
@@ -493,23 +469,11 @@ impl<A: Kept> Parts<A> {
     pub(crate) fn put_down(&mut self)
         ensures nodes { nodes_of self.new ≡ nodes_of self.old }
         ensures changes { changes_of self.new ≡ changes_of self.old }
-        ensures notes { length self.new.notes ≡ length self.old.notes }
         ensures live { live_slots self.new.slots ≡ live_slots self.old.slots }
         ensures keeps { KeepsRoom self.old self.new }
         ensures footings { self.new.footings ≡ self.old.footings }
     {
         self.kids.put_down();
-    }
-}
-
-/// The node that a note is of, if it is one of children.
-fn family_of<A>(note: &Note<A>) -> Option<NodeId>
-    ensures some { IfSome result (λ k. note.now.node ≡ k) }
-    ensures none { IfNone result (kid_lists note.now.was ≡ 0) }
-{
-    match &note.was {
-        Was::Kids => Some(note.node),
-        _ => None,
     }
 }
 
@@ -581,17 +545,5 @@ fn take_note<A: Kept>(
             release_one(answer, store);
             Look::Nothing
         }
-    }
-}
-
-/// Writes a note at the end of the journal, which has room for it.
-fn push_note<A: Drop>(notes: &mut Vec<Note<A>>, note: Note<A>)
-    requires { vec_len notes.old < vec_capacity notes.old }
-    ensures pushed { notes.new.items ≡ notes.old.items ++ note ∷ [] }
-    ensures capacity { vec_capacity notes.old ≤ vec_capacity notes.new }
-{
-    match notes.push(note) {
-        Ok(()) => {}
-        Err(_) => unreachable!(),
     }
 }

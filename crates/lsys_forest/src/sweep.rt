@@ -51,7 +51,7 @@ fn stands_at(kids: &[NodeId], node: NodeId, place: usize) -> bool
 
 /// Removes the node if it is loose, and notes its children.
 fn sweep<A: Kept>(parts: &mut Parts<A>, root: NodeId, node: NodeId, store: &mut A::Store)
-    requires places { length parts.old.notes + live_slots parts.old.slots ≤ parts.old.places }
+    requires places { live_slots parts.old.slots ≤ parts.old.note_room }
     requires made { LiveApart A.run_at A.Holds store.old (answers_in parts.old) }
     ensures swept { SweepsOne root parts.old parts.new node }
     ensures keeps { KeepsPlaces parts.old parts.new }
@@ -65,7 +65,7 @@ fn sweep<A: Kept>(parts: &mut Parts<A>, root: NodeId, node: NodeId, store: &mut 
 
 /// Sweeps the children in hand.
 fn sweep_hand<A: Kept>(parts: &mut Parts<A>, root: NodeId, store: &mut A::Store)
-    requires places { length parts.old.notes + live_slots parts.old.slots ≤ parts.old.places }
+    requires places { live_slots parts.old.slots ≤ parts.old.note_room }
     requires made { LiveApart A.run_at A.Holds store.old (answers_in parts.old) }
     ensures swept { SweepsLeft root parts.old parts.new parts.old.hand }
     ensures keeps { KeepsPlaces parts.old parts.new }
@@ -80,7 +80,7 @@ fn sweep_hand<A: Kept>(parts: &mut Parts<A>, root: NodeId, store: &mut A::Store)
 
 /// Sweeps the nodes that a change names.
 fn sweep_looked<A: Kept>(parts: &mut Parts<A>, root: NodeId, look: Look, store: &mut A::Store)
-    requires places { length parts.old.notes + live_slots parts.old.slots ≤ parts.old.places }
+    requires places { live_slots parts.old.slots ≤ parts.old.note_room }
     requires made { LiveApart A.run_at A.Holds store.old (answers_in parts.old) }
     ensures swept { SweepsLeft root parts.old parts.new (named_by look parts.old.hand) }
     ensures keeps { KeepsPlaces parts.old parts.new }
@@ -96,7 +96,7 @@ fn sweep_looked<A: Kept>(parts: &mut Parts<A>, root: NodeId, look: Look, store: 
 
 /// Removes each node that is not reached from the root.
 pub(crate) fn sweep_all<A: Kept>(parts: &mut Parts<A>, root: NodeId, store: &mut A::Store)
-    requires places { length parts.old.notes + live_slots parts.old.slots ≤ parts.old.places }
+    requires places { live_slots parts.old.slots ≤ parts.old.note_room }
     requires sound { IsRooted root (changes_of parts.old) (nodes_of parts.old) }
     requires ranked { AreRanked (nodes_of parts.old) parts.old.footings }
     requires made { LiveApart A.run_at A.Holds store.old (answers_in parts.old) }
@@ -104,7 +104,6 @@ pub(crate) fn sweep_all<A: Kept>(parts: &mut Parts<A>, root: NodeId, store: &mut
     ensures footings { KeepsFootings (nodes_of parts.new) parts.old parts.new }
     ensures ranked { AreRanked (nodes_of parts.new) parts.new.footings }
     ensures empty { changes_of parts.new ≡ [] }
-    ensures short { length parts.new.notes ≡ 0 }
     ensures live { live_slots parts.new.slots ≤ live_slots parts.old.slots }
     ensures room { KeepsRoom parts.old parts.new }
     ensures made { LiveApart A.run_at A.Holds store.new (answers_in parts.new) }

@@ -48,7 +48,7 @@ loop-root-preserved g c =
       live = omega (arith, done.1.live, was.live);
       room = record {
         capacity = omega (arith, takes.room.capacity, was.room.capacity);
-        places = omega (arith, takes.room.places, was.room.places);
+        note_room = omega (arith, takes.room.note_room, was.room.note_room);
         param_room = omega (arith, takes.room.param_room, was.room.param_room);
         kid_room = omega (arith, takes.room.kid_room, was.room.kid_room);
       };
@@ -56,11 +56,6 @@ loop-root-preserved g c =
       freed = follows_on g.A.Kept.run_at g.A.Kept.Holds (answers (nodes_of c.args.parts.now) (changes_of c.args.parts.now)) (answers m (changes_of c.loop-root.parts)) (answers m' (changes_of c.undo_one.new.parts)) c.args.store.now c.loop-root.store c.undo_one.new.store was.made was.freed
           (subst (λ cs. FreesUnheld g.A.Kept.run_at g.A.Kept.Holds (answers m cs) c.loop-root.store (answers m' (changes_of c.undo_one.new.parts)) c.undo_one.new.store) (sym takes.were) follows);
     }
-
-pub returns-clause-short : goal.returns-clause-short
-returns-clause-short g c =
-    let none = c.loop-root-test.ensures.none refl in
-    told_none c.undo_one.new.parts.notes c.undo_one.new.parts.past_params c.undo_one.new.parts.past_kids (ap changes_of none.1 ∙ none.0)
 
 pub returns-clause-made : goal.returns-clause-made
 returns-clause-made g c =

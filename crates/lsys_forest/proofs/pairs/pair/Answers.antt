@@ -20,14 +20,14 @@ returns-in-Push-clause-paired g c =
     let footings = c.set_mate.new.self.footings in
     subst (λ z. Pairs z t.footings footings c.args.opener node (Some node)) (sym (seen ∙ ap (λ k. seen_as k (row_at t.params node)) c.in-Push.is)) (pairs_push t.footings footings node c.args.opener e.here e.others)
 
-pub returns-in-Pop-clause-paired : goal.returns-in-Pop-clause-paired
-returns-in-Pop-clause-paired g c =
+pub end_branch-requires-clause-ends : goal.end_branch-requires-clause-ends
+end_branch-requires-clause-ends g c =
     let t = c.args.parts.now in
     let node = c.args.node in
     let n = some_of (nodes_of t node) c.requires.lives in
     let s = stored_of t.slots t.params t.kids node n.0 n.1 in
     let seen : seen_at (nodes_of t) node ≡ seen_as c.kind-kind.result (row_at t.params node) = ap (λ (o : Option (Node g.row.A.Denot)). (spot_in node o).seen) n.1 ∙ sym (ap (λ (x : Node g.row.A.Denot). x.seen) s.2) ∙ ap (λ k. seen_as k (row_at t.params node)) (sym (c.kind-kind.ensures s.0 s.1)) in
-    subst (λ z. Pairs z t.footings c.end_branch.new.parts.footings c.args.opener node c.end_branch.result) (sym (seen ∙ ap (λ k. seen_as k (row_at t.params node)) c.in-Pop.is)) c.end_branch.ensures.paired
+    seen ∙ ap (λ k. seen_as k (row_at t.params node)) c.in-Pop.is
 
 pub returns-in-Module-clause-paired : goal.returns-in-Module-clause-paired
 returns-in-Module-clause-paired g c =

@@ -19,7 +19,7 @@ loop-look-init g c =
       swept = record { swept = IsSwept-start (nodes_of t) c.args.root (changes_of t) c.requires.sound; ranked = c.requires.ranked; stands = λ j lives. refl };
       places = c.requires.places;
       live = omega arith;
-      room = record { capacity = refl; places = omega arith; param_room = omega arith; kid_room = omega arith };
+      room = record { capacity = refl; note_room = omega arith; param_room = omega arith; kid_room = omega arith };
       made = c.requires.made;
       freed = follows_start g.A.Kept.run_at g.A.Kept.Holds (answers (nodes_of t) (changes_of t)) c.args.store.now;
     }
@@ -73,23 +73,17 @@ loop-look-preserved g c =
     (subst (λ cs. FreesUnheld g.A.Kept.run_at g.A.Kept.Holds (answers m cs) c.loop-look.store (answers (nodes_of u) (changes_of u)) c.take_last.new.store) (sym takes.were) follows) in
     record {
       swept = e.swept first (changes_of c.args.parts.now) c.args.parts.now.footings c.requires.sound (record { swept = subst (IsSwept first c.args.root (nodes_of u) (changes_of u)) (sym done.1.looks) begun; ranked = ranked; stands = stands });
-      places = omega (arith, e.keeps.places, e.keeps.room.places, takes.notes, takes.room.places, done.1.live, was.places);
+      places = omega (arith, e.keeps.room.note_room, takes.room.note_room, done.1.live, was.places);
       live = omega (arith, e.keeps.live, done.1.live, was.live);
       room = record {
         capacity = omega (arith, e.keeps.room.capacity, takes.room.capacity, was.room.capacity);
-        places = omega (arith, e.keeps.room.places, takes.room.places, was.room.places);
+        note_room = omega (arith, e.keeps.room.note_room, takes.room.note_room, was.room.note_room);
         param_room = omega (arith, e.keeps.room.param_room, takes.room.param_room, was.room.param_room);
         kid_room = omega (arith, e.keeps.room.kid_room, takes.room.kid_room, was.room.kid_room);
       };
       made = e.made;
       freed = follows_on g.A.Kept.run_at g.A.Kept.Holds (answers first (changes_of c.args.parts.now)) (answers (nodes_of u) (changes_of u)) (answers (nodes_of v) (changes_of v)) c.args.store.now c.take_last.new.store c.sweep_looked.new.store made' freed e.freed;
     }
-
-pub returns-clause-short : goal.returns-clause-short
-returns-clause-short g c =
-    let t = c.put_down.new.self in
-    let none = c.in_default.ensures.none in
-    told_none t.notes t.past_params t.past_kids (c.put_down.ensures.changes ∙ ap changes_of none.1 ∙ none.0)
 
 pub returns-clause-made : goal.returns-clause-made
 returns-clause-made g c =

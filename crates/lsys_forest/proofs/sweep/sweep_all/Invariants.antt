@@ -8,7 +8,7 @@ use Rattle.lsys_forest.proofs.sweep.sweep_all.Given as goal
 abbrev pub invariant-loop-look : goal.invariant-loop-look
 invariant-loop-look g l = record {
   swept : IsSweptOf (nodes_of l.fn.parts) l.fn.parts.footings l.root l.parts [];
-  places : length l.parts.notes + live_slots l.parts.slots ≤ l.parts.places;
+  places : live_slots l.parts.slots ≤ l.parts.note_room;
   live : live_slots l.parts.slots ≤ live_slots l.fn.parts.slots;
   room : KeepsRoom l.fn.parts l.parts;
   made : LiveApart g.A.Kept.run_at g.A.Kept.Holds l.store (answers (nodes_of l.parts) (changes_of l.parts));

@@ -28,7 +28,7 @@ loop-place-preserved g c =
         live = omega (arith, e.keeps.live, was.keeps.live);
         room = record {
           capacity = omega (arith, e.keeps.room.capacity, was.keeps.room.capacity);
-          places = omega (arith, e.keeps.room.places, was.keeps.room.places);
+          note_room = omega (arith, e.keeps.room.note_room, was.keeps.room.note_room);
           param_room = omega (arith, e.keeps.room.param_room, was.keeps.room.param_room);
           kid_room = omega (arith, e.keeps.room.kid_room, was.keeps.room.kid_room);
         };

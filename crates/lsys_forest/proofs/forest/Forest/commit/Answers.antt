@@ -23,7 +23,7 @@ invariant_of-self g c =
     let e = c.sweep_all.ensures in
     let sound = (IsSound-swept (nodes_of i.parts) i.root (changes_of i.parts) (sound_now c.self.invariant.grove) (nodes_of c.sweep_all.new.parts) e.swept) in
     record {
-      grove = IsGrove-rest i.parts c.sweep_all.new.parts i.root i.spare_nodes i.spare_notes sound e.empty e.short e.live e.room c.self.invariant.grove;
+      grove = IsGrove-rest i.parts c.sweep_all.new.parts i.root i.spare_nodes i.spare_notes sound e.empty e.live e.room c.self.invariant.grove;
       ranked = e.ranked;
       linked = swept_linked i.root (nodes_of i.parts) (nodes_of c.sweep_all.new.parts) i.parts.footings c.sweep_all.new.parts.footings i.linked sound (left_stood (nodes_of i.parts) i.root (nodes_of c.sweep_all.new.parts) e.swept) e.footings c.self.invariant.linked;
       mated = swept_mated i.root (nodes_of i.parts) (nodes_of c.sweep_all.new.parts) i.parts.footings c.sweep_all.new.parts.footings i.mated sound (left_stood (nodes_of i.parts) i.root (nodes_of c.sweep_all.new.parts) e.swept) e.footings c.self.invariant.mated;

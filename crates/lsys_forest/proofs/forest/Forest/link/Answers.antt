@@ -30,7 +30,7 @@ invariant_of-self g c =
     let i = c.self.inside in
     let e = c.mate_levels-self-inside.ensures in
     let grove = c.self.invariant.grove in
-    let now : IsGrove (record i.parts { footings = c.mate_levels-self-inside.new.parts.footings }) i.root i.spare_nodes i.spare_notes = record { sound = grove.sound; nodes_left = grove.nodes_left; numbers = grove.numbers; fit = grove.fit; places_left = grove.places_left } in
+    let now : IsGrove (record i.parts { footings = c.mate_levels-self-inside.new.parts.footings }) i.root i.spare_nodes i.spare_notes = record { sound = grove.sound; nodes_left = grove.nodes_left; numbers = grove.numbers; fit = grove.fit; notes_left = grove.notes_left } in
     record {
       grove = subst (λ (t : Stock g.row.A.Denot). IsGrove t i.root i.spare_nodes i.spare_notes) (sym (c.mate_levels-self-inside.ensures.same ∙ ap (λ (t : Stock g.row.A.Denot). record t { footings = c.mate_levels-self-inside.new.parts.footings }) c.link_levels-self-inside.ensures.same)) now;
       ranked = e.ranked;

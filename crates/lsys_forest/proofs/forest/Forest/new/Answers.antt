@@ -19,7 +19,7 @@ invariant_of-result g c =
         nodes_left = omega (arith, e.live, e.capacity);
         numbers = omega (arith, e.live);
         fit = λ some. absurd (omega (arith, some));
-        places_left = omega (arith, e.live, e.places, e.notes);
+        notes_left = omega (arith, e.live, e.notes);
       };
       ranked = ranked_root (nodes_of p) p.footings e.nodes;
       linked = λ t k way before after less whole. absurd (omega (arith, less));

@@ -17,7 +17,7 @@ invariant_of-self g c =
     let e = c.reserve.ensures in
     let grove = c.self.invariant.grove in
     record {
-      grove = IsGrove-room i.parts c.reserve.new.self i.root i.spare_nodes i.spare_notes i.spare_nodes i.spare_notes e.nodes e.changes e.notes e.live (omega (arith, e.live, e.keeps.capacity, grove.nodes_left)) (omega (arith, e.live, grove.numbers)) (λ some. (let f = grove.fit some in omega (arith, f, e.keeps.capacity))) (omega (arith, e.live, e.notes, e.keeps.places, grove.places_left)) grove;
+      grove = IsGrove-room i.parts c.reserve.new.self i.root i.spare_nodes i.spare_notes i.spare_nodes i.spare_notes e.nodes e.changes (omega (arith, e.live, e.keeps.capacity, grove.nodes_left)) (omega (arith, e.live, grove.numbers)) (λ some. (let f = grove.fit some in omega (arith, f, e.keeps.capacity))) (omega (arith, e.live, e.keeps.note_room, grove.notes_left)) grove;
       ranked = subst (λ (m : Nodes g.row.A.Denot). AreRanked m c.reserve.new.self.footings) (sym e.nodes) (subst (AreRanked (nodes_of i.parts)) (sym e.footings) c.self.invariant.ranked);
       linked = subst (λ (m : Nodes g.row.A.Denot). AreLinked m i.root c.reserve.new.self.footings i.linked) (sym e.nodes) (subst (λ fs. AreLinked (nodes_of i.parts) i.root fs i.linked) (sym e.footings) c.self.invariant.linked);
       mated = subst (λ (m : Nodes g.row.A.Denot). AreMated m i.root c.reserve.new.self.footings i.mated) (sym e.nodes) (subst (λ fs. AreMated (nodes_of i.parts) i.root fs i.mated) (sym e.footings) c.self.invariant.mated);
@@ -33,12 +33,11 @@ invariant_of-self-2 g c =
     let new = c.room_for-room.new.parts in
     let asked = subst (λ (f : Grove g.row.A.Denot). live_nodes f + c.args.nodes < 2 ^ 32) (sym c.self.view_is) c.requires.numbers in
     let live : live_slots new.slots ≡ live_slots i.parts.slots = ap (λ (t : Stock g.row.A.Denot). live_slots t.slots) r.same ∙ e.live in
-    let was : IsGrove c.reserve.new.self i.root i.spare_nodes i.spare_notes = IsGrove-room i.parts c.reserve.new.self i.root i.spare_nodes i.spare_notes i.spare_nodes i.spare_notes e.nodes e.changes e.notes e.live (omega (arith, e.live, e.keeps.capacity, grove.nodes_left)) (omega (arith, e.live, grove.numbers)) (λ some. (let f = grove.fit some in omega (arith, f, e.keeps.capacity))) (omega (arith, e.live, e.notes, e.keeps.places, grove.places_left)) grove in
-    let notes = ap (λ (t : Stock g.row.A.Denot). length t.notes) r.same in
-    let places = ap (λ (t : Stock g.row.A.Denot). t.places) r.same in
+    let was : IsGrove c.reserve.new.self i.root i.spare_nodes i.spare_notes = IsGrove-room i.parts c.reserve.new.self i.root i.spare_nodes i.spare_notes i.spare_nodes i.spare_notes e.nodes e.changes (omega (arith, e.live, e.keeps.capacity, grove.nodes_left)) (omega (arith, e.live, grove.numbers)) (λ some. (let f = grove.fit some in omega (arith, f, e.keeps.capacity))) (omega (arith, e.live, e.keeps.note_room, grove.notes_left)) grove in
+    let left = ap (λ (t : Stock g.row.A.Denot). t.note_room) r.same in
     record {
-      grove = IsGrove-room c.reserve.new.self new i.root i.spare_nodes i.spare_notes c.room_for-room.result c.max-spare_notes.result (ap (λ (t : Stock g.row.A.Denot). nodes_of t) r.same) (ap (λ (t : Stock g.row.A.Denot). changes_of t) r.same) notes (ap (λ (t : Stock g.row.A.Denot). live_slots t.slots) r.same)
-          (omega (arith, live, e.live, r.room)) (omega (arith, live, e.live, r.most, asked, grove.numbers)) r.fit (omega (arith, live, notes, places, more.places, more.fits, r.most, c.max-spare_nodes.ensures, c.saturating_add-places.ensures, c.live.ensures, e.notes)) was;
+      grove = IsGrove-room c.reserve.new.self new i.root i.spare_nodes i.spare_notes c.room_for-room.result c.max-spare_notes.result (ap (λ (t : Stock g.row.A.Denot). nodes_of t) r.same) (ap (λ (t : Stock g.row.A.Denot). changes_of t) r.same)
+          (omega (arith, live, e.live, r.room)) (omega (arith, live, e.live, r.most, asked, grove.numbers)) r.fit (omega (arith, live, e.live, left, more.notes, more.fits, r.most, c.max-spare_nodes.ensures, c.saturating_add-places.ensures, c.live.ensures)) was;
       ranked = subst (λ (t : Stock g.row.A.Denot). AreRanked (nodes_of t) t.footings) (sym r.same) (subst (λ (m : Nodes g.row.A.Denot). AreRanked m c.reserve.new.self.footings) (sym e.nodes) (subst (AreRanked (nodes_of i.parts)) (sym e.footings) c.self.invariant.ranked));
       linked = subst (λ (t : Stock g.row.A.Denot). AreLinked (nodes_of t) i.root t.footings i.linked) (sym r.same) (subst (λ (m : Nodes g.row.A.Denot). AreLinked m i.root c.reserve.new.self.footings i.linked) (sym e.nodes) (subst (λ fs. AreLinked (nodes_of i.parts) i.root fs i.linked) (sym e.footings) c.self.invariant.linked));
       mated = subst (λ (t : Stock g.row.A.Denot). AreMated (nodes_of t) i.root t.footings i.mated) (sym r.same) (subst (λ (m : Nodes g.row.A.Denot). AreMated m i.root c.reserve.new.self.footings i.mated) (sym e.nodes) (subst (λ fs. AreMated (nodes_of i.parts) i.root fs i.mated) (sym e.footings) c.self.invariant.mated));

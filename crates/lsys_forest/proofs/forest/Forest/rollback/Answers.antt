@@ -20,7 +20,7 @@ invariant_of-self g c =
     let i = c.self.inside in
     let e = c.undo_all.ensures in
     record {
-      grove = IsGrove-rest i.parts c.undo_all.new.parts i.root i.spare_nodes i.spare_notes (subst (IsRooted i.root []) (sym e.nodes) (sound_rest c.self.invariant.grove)) e.empty e.short e.live e.room c.self.invariant.grove;
+      grove = IsGrove-rest i.parts c.undo_all.new.parts i.root i.spare_nodes i.spare_notes (subst (IsRooted i.root []) (sym e.nodes) (sound_rest c.self.invariant.grove)) e.empty e.live e.room c.self.invariant.grove;
       ranked = e.ranked;
       linked = e.linked;
       mated = λ t less. absurd (omega (arith, less));

@@ -42,7 +42,7 @@ invariant_of-self g c =
     let footings = c.rerank.new.self.footings in
     let old = c.set_kids.new.self in
     let high : c.depth-depth.result ≡ depth_in (nodes_of old c.args.node) = c.depth-depth.ensures ∙ ap (λ (t : Stock g.row.A.Denot). depth_in (nodes_of t c.args.node)) e.same in
-    let now : IsGrove (record old { footings = footings }) i.root i.spare_nodes (i.spare_notes - 1) = record { sound = grove.sound; nodes_left = grove.nodes_left; numbers = grove.numbers; fit = grove.fit; places_left = grove.places_left } in
+    let now : IsGrove (record old { footings = footings }) i.root i.spare_nodes (i.spare_notes - 1) = record { sound = grove.sound; nodes_left = grove.nodes_left; numbers = grove.numbers; fit = grove.fit; notes_left = grove.notes_left } in
     record {
       grove = subst (λ (t : Stock g.row.A.Denot). IsGrove t i.root i.spare_nodes (i.spare_notes - 1)) (sym e.same) now;
       ranked = subst (λ (t : Stock g.row.A.Denot). AreRanked (nodes_of t) footings) (sym e.same) (kids_ranked i.root i.parts old footings c.args.node n _ 0 (list_room c.args.kids.now) (sound_now c.self.invariant.grove) j c.self.invariant.ranked e.ranked);

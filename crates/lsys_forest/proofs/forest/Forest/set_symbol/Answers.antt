@@ -1,4 +1,5 @@
-use Rattle.std.proofs.Common.{◌≡◌, ◌∙◌, ◌⊎◌, ◌≤◌, ◌<◌, ◌-◌, Some, refl, sym, subst, arith, ap}
+use Rattle.lsys_forest.proofs.PairLemmas.{sort_of}
+use Rattle.std.proofs.Common.{◌≡◌, ◌∙◌, ◌⊎◌, ◌≤◌, ◌<◌, ◌-◌, Some, refl, sym, subst, arith, ap, [], inl, inr}
 use Rattle.std.specs.Prelude.{IsSome}
 use Rattle.lsys_level.specs.Places.{seen_in, params_in}
 use Rattle.lsys_region.specs.Rooms.{list_room}
@@ -34,7 +35,7 @@ invariant_of-self g c =
     let depth : c.depth-depth.result ≡ s.0.depth = c.depth-depth.ensures ∙ ap depth_in s.1 in
     let sort : AreSameSort s.0.seen (seen_in c.args.symbol.now) ⊎ (c.mated_still-self-inside.result ≤ s.0.depth - 1) =
     subst (λ d. AreSameSort s.0.seen (seen_in c.args.symbol.now) ⊎ (c.mated_still-self-inside.result ≤ d - 1)) depth
-    (subst (λ z. AreSameSort z (seen_in c.args.symbol.now) ⊎ (c.mated_still-self-inside.result ≤ c.depth-depth.result - 1)) (sym seen) (c.mated_still-self-inside.ensures.sort (row_at i.parts.params k))) in
+    (subst (λ z. AreSameSort z (seen_in c.args.symbol.now) ⊎ (c.mated_still-self-inside.result ≤ c.depth-depth.result - 1)) (sym seen) (elim c.mated_still-self-inside.ensures.sort [ inl same ↦ inl (sort_of c.kind-kind.result [] (row_at i.parts.params k) (seen_in c.args.symbol.now) same) | inr few ↦ inr few ])) in
     let grove = IsGrove-set i.parts c.set_symbol.new.self i.root i.spare_nodes i.spare_notes (i.spare_notes - 1) c.args.node s.0 (with_seen (seen_in c.args.symbol.now) s.0) _ (list_room (params_in c.args.symbol.now)) 0 (set_seen i.root (changes_of i.parts) (nodes_of i.parts) c.args.node s.0 (seen_in c.args.symbol.now) c.set_symbol.ensures.few (sound_now c.self.invariant.grove) s.1) (c.set_symbol.ensures.set s.0 s.1) (omega (arith, asked.1)) c.self.invariant.grove in
     record {
       grove = grove;

@@ -21,8 +21,8 @@ invariant_of-parts g c =
       params = e.params;
       kids = e.kids;
       stock = record {
-        past_params_long = ap length params ∙ sym (ap param_count c.new.ensures.items);
-        past_kids_long = ap length kids ∙ sym (ap kid_count c.new.ensures.items);
+        past_params_long = ap length params ∙ sym (ap param_count c.new.ensures);
+        past_kids_long = ap length kids ∙ sym (ap kid_count c.new.ensures);
       };
     }
 
@@ -50,6 +50,3 @@ returns-clause-live g c = grind (arith, common_steps)
 
 pub returns-clause-capacity : goal.returns-clause-capacity
 returns-clause-capacity g c = grind (arith, common_steps)
-
-pub returns-clause-places : goal.returns-clause-places
-returns-clause-places g c = grind (arith, common_steps)

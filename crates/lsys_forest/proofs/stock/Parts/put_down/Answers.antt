@@ -16,9 +16,6 @@ invariant_of-self g c = grind (arith, common_steps)
 pub returns-clause-changes : goal.returns-clause-changes
 returns-clause-changes g c = grind (arith, common_steps)
 
-pub returns-clause-notes : goal.returns-clause-notes
-returns-clause-notes g c = grind (arith, common_steps)
-
 pub returns-clause-live : goal.returns-clause-live
 returns-clause-live g c = grind (arith, common_steps)
 

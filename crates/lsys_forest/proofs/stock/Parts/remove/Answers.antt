@@ -1,11 +1,11 @@
 use Rattle.std.proofs.Common.{ℕ, ℤ, ◌≡◌, ◌<◌, ◌++◌, ◌∷◌, [], length, map, Some, None, refl, sym, ap, ◌∙◌, subst, arith}
-use Rattle.std.specs.Prelude.{IsSome, option_map, vec_capacity}
+use Rattle.std.specs.Prelude.{IsSome, option_map}
 use Rattle.std.proofs.lemmas.List.{length_push, length-map}
 use Rattle.std.proofs.lemmas.Option.{same_Some}
 use Rattle.std.proofs.lemmas.Grind.{common_steps}
 use Rattle.lsys_forest.specs.declared.note.Was.TheVariants as was
 use Rattle.lsys_forest.specs.declared.node.Stored.{Stored}
-use Rattle.lsys_forest.specs.Shelves.{Shelf, run_list}
+use Rattle.lsys_forest.specs.Shelves.{Shelf, run_list, past_room}
 use Rattle.lsys_forest.specs.Slots.{slot_at, no_footing, footing_at, live_slots}
 use Rattle.lsys_forest.specs.Nodes.{Node}
 use Rattle.lsys_forest.specs.Changes.{OldKids}
@@ -27,9 +27,9 @@ take_out-removed-requires-clause-lives g c =
 pub take_out-removed-requires-clause-place : goal.take_out-removed-requires-clause-place
 take_out-removed-requires-clause-place g c =
     let i = c.self.inside in
-    let place = subst (λ (t : Stock g.row.A.Denot). length t.notes < t.places) (sym c.self.view_is) c.requires.place in
+    let place = subst (λ (t : Stock g.row.A.Denot). 0 < t.note_room) (sym c.self.view_is) c.requires.place in
     let same = length-map i.kids.past (run_list i.kids.pool) in
-    omega (arith, place, same, c.self.invariant.stock.past_kids_long, kid_count_le i.notes.items)
+    omega (arith, place, same, c.self.invariant.stock.past_kids_long, kid_count_le i.journal.notes)
 
 pub release_one-requires : goal.release_one-requires
 release_one-requires g c =
@@ -52,7 +52,7 @@ invariant_of-self g c =
     record {
       params = e.params;
       kids = e.kids;
-      stock = IsStock-note i.notes.items c.push_note.new.notes.items _ (map (run_list i.params.pool) i.params.past) (map (run_list p'.pool) p'.past) (map (run_list i.kids.pool) i.kids.past) (map (run_list q'.pool) q'.past) c.push_note.ensures.pushed (let l = ap length pp in omega (arith, l)) (ap length qp ∙ length_push (map (run_list i.kids.pool) i.kids.past) _) c.self.invariant.stock;
+      stock = IsStock-note i.journal.notes c.push.new.self.notes _ (map (run_list i.params.pool) i.params.past) (map (run_list p'.pool) p'.past) (map (run_list i.kids.pool) i.kids.past) (map (run_list q'.pool) q'.past) c.push.ensures.pushed (let l = ap length pp in omega (arith, l)) (ap length qp ∙ length_push (map (run_list i.kids.pool) i.kids.past) _) c.self.invariant.stock;
     }
 
 pub returns : goal.returns
@@ -63,14 +63,14 @@ returns g c =
     let t' = c.take_out-removed.new.table in
     let p' = c.take_out-removed.new.params in
     let q' = c.take_out-removed.new.kids in
-    let ns = c.push_note.new.notes in
+    let ns = c.push.new.self in
     let params = map (run_list i.params.pool) i.table.param_runs in
     let kids = map (run_list i.kids.pool) i.table.kid_runs in
     let past = map (run_list i.params.pool) i.params.past in
     let past_kids = map (run_list i.kids.pool) i.kids.past in
     let pp = ap (λ (s : Shelf ℤ). s.past) e.no_params.cleared in
     let qp = ap (λ (s : Shelf ℕ). s.past) e.no_kids.swapped in
-    let new : Stock g.row.A.Denot = stock_of t' p' q' ns.items (vec_capacity ns) in
+    let new : Stock g.row.A.Denot = stock_of t' p' q' ns in
     subst (λ (t : Stock g.row.A.Denot). (n : Node g.row.A.Denot) → nodes_of t k ≡ Some n → Removes t new k n × Releases g.A.Kept.run_at g.A.Kept.Holds n.answer c.args.store.now c.release_one.new.store) c.self.view_is
     (λ n is. (
     let s = stored_of i.table.slots params kids k n is in
@@ -83,16 +83,22 @@ returns g c =
           kids_same = e.no_kids.comes.others;
         }) (ap (option_map (node_of (row_at new.params k) (row_at new.kids k))) cleared);
         noted =
-            ap (λ ns. changes_told ns (map (run_list p'.pool) p'.past) (map (run_list q'.pool) q'.past)) c.push_note.ensures.pushed
-            ∙ ap (λ p. changes_told (i.notes.items ++ record { node = k; was = was.Kids } ∷ []) p (map (run_list q'.pool) q'.past)) pp
-            ∙ ap (changes_told (i.notes.items ++ record { node = k; was = was.Kids } ∷ []) past) qp
-            ∙ told_kid i.notes.items (record { node = k; was = was.Kids }) past past_kids (row_at kids k) c.self.invariant.stock.past_params_long c.self.invariant.stock.past_kids_long
-            ∙ ap (λ (m : Node g.row.A.Denot). changes_told i.notes.items past past_kids ++ record { node = k; before = OldKids m.kids } ∷ []) s.2;
-        notes = ap length c.push_note.ensures.pushed ∙ length_push i.notes.items _;
+            ap (λ ns. changes_told ns (map (run_list p'.pool) p'.past) (map (run_list q'.pool) q'.past)) c.push.ensures.pushed
+            ∙ ap (λ p. changes_told (i.journal.notes ++ record { node = k; was = was.Kids } ∷ []) p (map (run_list q'.pool) q'.past)) pp
+            ∙ ap (changes_told (i.journal.notes ++ record { node = k; was = was.Kids } ∷ []) past) qp
+            ∙ told_kid i.journal.notes (record { node = k; was = was.Kids }) past past_kids (row_at kids k) c.self.invariant.stock.past_params_long c.self.invariant.stock.past_kids_long
+            ∙ ap (λ (m : Node g.row.A.Denot). changes_told i.journal.notes past past_kids ++ record { node = k; before = OldKids m.kids } ∷ []) s.2;
+        notes = ap length c.push.ensures.pushed ∙ length_push i.journal.notes _;
         live = let l = ap live_slots e.slots in let f = live_gone i.table.slots k s.0 (slot_some i.table.slots k s.0 s.1) in omega (arith, l, f);
         room = record {
           capacity = e.capacity;
-          places = let x = ap (λ (r : Shelf ℤ). r.past_places) e.no_params.cleared in omega (arith, x, c.push_note.ensures.capacity, e.no_kids.places);
+          note_room =
+              let f = live_gone i.table.slots k s.0 (slot_some i.table.slots k s.0 s.1) in
+              let n = ap live_slots e.slots in
+              let x = ap past_room e.no_params.cleared in
+              let l = ap length qp in
+              let m = length_push past_kids (row_at kids k) in
+              omega (arith, f, n, x, l, m, c.push.ensures.room, e.no_kids.places);
           param_room = let x = ap (λ (r : Shelf ℤ). r.spare) e.no_params.cleared in omega (arith, x);
           kid_room = omega (arith, e.no_kids.spare, room_nil 0);
         };
@@ -103,5 +109,5 @@ returns g c =
     )
     ))
 
-pub push_note-requires : goal.push_note-requires
-push_note-requires g c = grind (arith, common_steps)
+pub push-requires : goal.push-requires
+push-requires g c = grind (arith, common_steps)

@@ -14,7 +14,7 @@ returns-clause-here g c =
     let kids = map (run_list i.kids.pool) i.table.kid_runs in
     let lives = subst (λ (t : Stock g.row.A.Denot). IsSome (nodes_of t k)) (sym c.self.view_is) c.requires.lives in
     let stored = lives_stored i.table.slots params kids k lives in
-    subst (λ (t : Stock g.row.A.Denot). footing_at c.set_mate.new.self.footings k ≡ mate_set c.args.mate (footing_at t.footings k)) c.self.view_is
+    subst (λ (t : Stock g.row.A.Denot). footing_at c.set_mate.new.self.footings k ≡ mate_set c.args.to (footing_at t.footings k)) c.self.view_is
     (c.set_mate.ensures.here (subst IsSome (sym stored.1) refl))
 
 pub returns-clause-others : goal.returns-clause-others

@@ -1,5 +1,5 @@
 use Rattle.std.proofs.Common.{ℤ, ◌≡◌, ◌+◌, ◌≤◌, ◌<◌, ◌++◌, ◌∷◌, [], length, map, Some, refl, sym, ap, ◌∙◌, subst, arith}
-use Rattle.std.specs.Prelude.{IsSome, option_map, vec_capacity}
+use Rattle.std.specs.Prelude.{IsSome, option_map}
 use Rattle.std.proofs.lemmas.List.{length_push, length-map}
 use Rattle.std.proofs.lemmas.Grind.{common_steps}
 use Rattle.lsys_level.specs.Places.{seen_in, params_in}
@@ -30,9 +30,9 @@ swap_params-requires-clause-lives g c =
 pub swap_params-requires-clause-place : goal.swap_params-requires-clause-place
 swap_params-requires-clause-place g c =
     let i = c.self.inside in
-    let place = subst (λ (t : Stock g.row.A.Denot). length t.notes < t.places) (sym c.self.view_is) c.requires.place in
+    let place = subst (λ (t : Stock g.row.A.Denot). 0 < t.note_room) (sym c.self.view_is) c.requires.place in
     let same = length-map i.params.past (run_list i.params.pool) in
-    omega (arith, place, same, c.self.invariant.stock.past_params_long, param_count_le i.notes.items)
+    omega (arith, place, same, c.self.invariant.stock.past_params_long, param_count_le i.journal.notes)
 
 pub invariant_of-self : goal.invariant_of-self
 invariant_of-self g c =
@@ -51,7 +51,7 @@ invariant_of-self g c =
     record {
       params = e.owned;
       kids = subst (λ r. IsOwner i.kids r) (sym (ap (λ (y : SlotTable g.row.A.Denot). y.kid_runs) is_table)) c.self.invariant.kids;
-      stock = IsStock-note i.notes.items c.push_note.new.notes.items _ (map (run_list i.params.pool) i.params.past) (map (run_list p'.pool) p'.past) (map (run_list i.kids.pool) i.kids.past) (map (run_list i.kids.pool) i.kids.past) c.push_note.ensures.pushed (ap length behind ∙ length_push (map (run_list i.params.pool) i.params.past) _) (omega arith) c.self.invariant.stock;
+      stock = IsStock-note i.journal.notes c.push.new.self.notes _ (map (run_list i.params.pool) i.params.past) (map (run_list p'.pool) p'.past) (map (run_list i.kids.pool) i.kids.past) (map (run_list i.kids.pool) i.kids.past) c.push.ensures.pushed (ap length behind ∙ length_push (map (run_list i.params.pool) i.params.past) _) (omega arith) c.self.invariant.stock;
     }
 
 pub returns-clause-set : goal.returns-clause-set
@@ -67,7 +67,7 @@ returns-clause-set g c =
     let runs : c.swap_kind.new.self.param_runs ≡ i.table.param_runs = ap (λ (y : SlotTable g.row.A.Denot). y.param_runs) f in
     let is_table : t' ≡ record i.table { slots = change_slot (kind_set x) i.table.slots k; param_runs = t'.param_runs } = e.table ∙ ap (λ (y : SlotTable g.row.A.Denot). record y { param_runs = t'.param_runs }) f in
     let swapped : Swaps k c.params_of.result.now (shelf_of i.params i.table.param_runs) (shelf_of p' t'.param_runs) = subst (λ r. Swaps k c.params_of.result.now (shelf_of i.params r) (shelf_of p' t'.param_runs)) runs e.swapped in
-    let ns = c.push_note.new.notes in
+    let ns = c.push.new.self in
     let l = params_in c.args.symbol.now in
     let params = map (run_list i.params.pool) i.table.param_runs in
     let kids = map (run_list i.kids.pool) i.table.kid_runs in
@@ -75,7 +75,7 @@ returns-clause-set g c =
     let past_kids = map (run_list i.kids.pool) i.kids.past in
     let behind = ap (λ (s : Shelf ℤ). s.past) swapped.swapped in
     let comes = subst (λ m. ComesTo k m params (map (run_list p'.pool) t'.param_runs)) c.params_of.ensures.params swapped.comes in
-    subst (λ (t : Stock g.row.A.Denot). (n : Node g.row.A.Denot) → nodes_of t k ≡ Some n → Journals t (stock_of t' p' i.kids ns.items (vec_capacity ns)) k (Some (with_seen (seen_in c.args.symbol.now) n)) (OldSeen n.seen) 0 (list_room l) 0) c.self.view_is
+    subst (λ (t : Stock g.row.A.Denot). (n : Node g.row.A.Denot) → nodes_of t k ≡ Some n → Journals t (stock_of t' p' i.kids ns) k (Some (with_seen (seen_in c.args.symbol.now) n)) (OldSeen n.seen) 0 (list_room l) 0) c.self.view_is
     (λ n is. record {
       nodes =
           ap (λ (y : SlotTable g.row.A.Denot). shown_nodes y.slots (map (run_list p'.pool) t'.param_runs) (map (run_list i.kids.pool) y.kid_runs)) is_table
@@ -83,14 +83,14 @@ returns-clause-set g c =
           ∙ ap (λ y. with_node (shown_nodes i.table.slots params kids) k (Some (with_seen y n))) c.kind_of.ensures;
       noted =
           let same = seen_was i.table.slots params kids k n c.in-Some.kind is c.in-Some.ensures.before in
-          ap (λ ns. changes_told ns (map (run_list p'.pool) p'.past) past_kids) c.push_note.ensures.pushed
-          ∙ ap (λ ps. changes_told (i.notes.items ++ record { node = k; was = was.Kind c.in-Some.kind } ∷ []) ps past_kids) behind
-          ∙ told_param i.notes.items (record { node = k; was = was.Kind c.in-Some.kind }) past (row_at params k) past_kids c.self.invariant.stock.past_params_long c.self.invariant.stock.past_kids_long
-          ∙ ap (λ y. changes_told i.notes.items past past_kids ++ record { node = k; before = OldSeen y } ∷ []) same;
-      notes = ap length c.push_note.ensures.pushed ∙ length_push i.notes.items _;
+          ap (λ ns. changes_told ns (map (run_list p'.pool) p'.past) past_kids) c.push.ensures.pushed
+          ∙ ap (λ ps. changes_told (i.journal.notes ++ record { node = k; was = was.Kind c.in-Some.kind } ∷ []) ps past_kids) behind
+          ∙ told_param i.journal.notes (record { node = k; was = was.Kind c.in-Some.kind }) past (row_at params k) past_kids c.self.invariant.stock.past_params_long c.self.invariant.stock.past_kids_long
+          ∙ ap (λ y. changes_told i.journal.notes past past_kids ++ record { node = k; before = OldSeen y } ∷ []) same;
+      notes = ap length c.push.ensures.pushed ∙ length_push i.journal.notes _;
       live = let same = ap (λ (y : SlotTable g.row.A.Denot). live_slots y.slots) is_table ∙ live_change (kind_set x) i.table.slots k in omega (arith, same);
       capacity = ap (λ (y : SlotTable g.row.A.Denot). y.capacity) is_table;
-      places = omega (arith, c.push_note.ensures.capacity, swapped.places);
+      note_room = let x = ap (λ (s : Shelf ℤ). s.past) swapped.swapped in let l = ap length x in let m = length_push past (row_at params k) in omega (arith, c.push.ensures.room, swapped.places, l, m);
       param_room = subst (λ m. i.params.pool.spare ≤ p'.pool.spare + list_room m) c.params_of.ensures.params swapped.spare;
       kid_room = omega arith;
       hand = refl;
@@ -106,5 +106,5 @@ unreachable-requires g c = grind (arith, common_steps)
 pub swap_params-requires-clause-room : goal.swap_params-requires-clause-room
 swap_params-requires-clause-room g c = grind (arith, common_steps)
 
-pub push_note-requires : goal.push_note-requires
-push_note-requires g c = grind (arith, common_steps)
+pub push-requires : goal.push-requires
+push-requires g c = grind (arith, common_steps)
