@@ -1,12 +1,12 @@
 -- What each step of the relations keeps.
-use Rattle.std.proofs.Common.{◌≡◌, ◌≢◌, ℕ, zero, suc, ◌+◌, ◌<◌, List, [], ◌∷◌, ◌++◌, map, get_or, Bool, true, false, not, ◌||◌, ◌&&◌, cond, ◌==◌, refl, sym, ap, subst, ◌∙◌, inl, inr, arith}
+use Rattle.std.proofs.Common.{◌≡◌, ◌≢◌, ℕ, zero, suc, ◌+◌, ◌<◌, ◌≤◌, List, [], ◌∷◌, ◌++◌, map, get_or, Bool, true, false, not, ◌||◌, ◌&&◌, cond, ◌==◌, refl, sym, ap, subst, ◌∙◌, inl, inr, arith}
 use Rattle.std.specs.Prelude.{sum_by, nat_lt, IsPermutation}
 use Rattle.std.proofs.lemmas.List.Sorted.{sum_by-IsPermutation}
 use Rattle.std.proofs.lemmas.List.Sums.{sum_by-cons}
 use Rattle.std.proofs.lemmas.Bool.Decides.{eqb_tells}
 use Rattle.std.proofs.lemmas.Bool.{eq-eqb}
 use Rattle.lsys_reads.specs.declared.Pair.{Pair}
-use Rattle.lsys_reads.specs.Rows.{has, Row, tag_row, OtherRowsStay, IsRising, AreRising, PutsTag, Reserves}
+use Rattle.lsys_reads.specs.Rows.{few, has, Row, tag_row, OtherRowsStay, IsRising, AreRising, PutsTag, Reserves}
 use Rattle.lsys_reads.proofs.RowLemmas.{either, has_at_end}
 use Rattle.lsys_reads.specs.Relations.{Relations, is_settled, SettledStay, row_tags, relations_of, occurrences, seen_tag, reader_of, AgreeBothWays, pairs_have, Covers, Forgets}
 
@@ -233,9 +233,9 @@ forgets_all s r s' r' pending pending' gone old is all reader seen = settled_is 
     told false lacks = all.kept reader seen lacks ∙ sym (settled_is s pending reader seen) ∙ ap (λ (v : Relations). is_settled v reader seen) is
         ∙ sym (ap (λ (b : Bool). not b && is_settled old reader seen) lacks)
 
--- pending pairs are settled: a row rises once nothing is owed there
+-- pending pairs are settled: a row rises once no more than a few are owed there
 abbrev pub RiseUnlessOwed : List Row → Type 0
-RiseUnlessOwed rows = (tag : ℕ) → (tag_row rows tag).owed ≡ 0 → IsRising (tag_row rows tag).tags
+RiseUnlessOwed rows = (tag : ℕ) → (tag_row rows tag).owed ≤ few → IsRising (tag_row rows tag).tags
 
 pub record Settles (s s' r' : List Row) (pending pending' : List Pair) : Type 0 where
   pub sound : AgreeBothWays s' r' pending'
@@ -243,16 +243,16 @@ pub record Settles (s s' r' : List Row) (pending pending' : List Pair) : Type 0 
   pub rising_seen : RiseUnlessOwed s'
   pub rising_reader : RiseUnlessOwed r'
 
-rise_put : (old new : List Row) (tag other : ℕ) → PutsTag old new tag other → ((tag_row new tag).owed ≡ 0 → IsRising (tag_row new tag).tags) → RiseUnlessOwed old → RiseUnlessOwed new
-rise_put old new tag other puts own was q none = elim (eqb_tells tag q) [
-  | inl same ↦ subst (λ (z : ℕ). IsRising (tag_row new z).tags) same.1 (own (ap (λ (z : ℕ). (tag_row new z).owed) same.1 ∙ none))
+rise_put : (old new : List Row) (tag other : ℕ) → PutsTag old new tag other → ((tag_row new tag).owed ≤ few → IsRising (tag_row new tag).tags) → RiseUnlessOwed old → RiseUnlessOwed new
+rise_put old new tag other puts own was q some = elim (eqb_tells tag q) [
+  | inl same ↦ subst (λ (z : ℕ). IsRising (tag_row new z).tags) same.1 (own (subst (λ (z : ℕ). (tag_row new z).owed ≤ few) (sym same.1) some))
   | inr far ↦
       (let stays = puts.others q (λ e. far.1 (sym e)) in
-      subst (λ (r : Row). IsRising r.tags) (sym stays) (was q (sym (ap (λ (r : Row). r.owed) stays) ∙ none)))
+      subst (λ (r : Row). IsRising r.tags) (sym stays) (was q (subst (λ (r : Row). r.owed ≤ few) stays some)))
 ]
 
 pub settles_one : (s s' r' s2 r2 : List Row) (pending pending' left : List Pair) (p : Pair) → Settles s s' r' pending pending' → pending' ≡ left ++ p ∷ []
-    → PutsTag s' s2 p.seen p.reader → ((tag_row s2 p.seen).owed ≡ 0 → IsRising (tag_row s2 p.seen).tags) → PutsTag r' r2 p.reader p.seen → ((tag_row r2 p.reader).owed ≡ 0 → IsRising (tag_row r2 p.reader).tags) → Settles s s2 r2 pending left
+    → PutsTag s' s2 p.seen p.reader → ((tag_row s2 p.seen).owed ≤ few → IsRising (tag_row s2 p.seen).tags) → PutsTag r' r2 p.reader p.seen → ((tag_row r2 p.reader).owed ≤ few → IsRising (tag_row r2 p.reader).tags) → Settles s s2 r2 pending left
 settles_one s s' r' s2 r2 pending pending' left p so_far pushed in_seen rise_seen in_reader rise_reader = record {
   sound = sound_put s' s2 r' r2 left p in_seen in_reader (subst (AgreeBothWays s' r') pushed so_far.sound);
   either = λ reader seen.

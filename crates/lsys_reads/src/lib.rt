@@ -1,14 +1,17 @@
 //! Two finite relations on tags, settled and pending: which reader's answer read which symbol.
 //!
-//! Each direction has a row of rising tags for each tag, so that a change costs by the rows that it touches. Room for
-//! what is pending is kept in both rows by [`Reads::add`], so that [`Reads::settle`] and [`Reads::retract`] take no
-//! memory.
+//! Each direction has a row of rising tags for each tag, so that a change costs by the rows that it touches. All rows of
+//! a direction stand in one vector. Room for what is pending is kept in both by [`Reads::add`], so that
+//! [`Reads::settle`] and [`Reads::retract`] take no memory.
 #![tactic(auto)]
 
+mod head;
+mod pack;
 mod row;
 mod table;
 
-ghost use Rattle.std.specs.Prelude.{◌≡◌, ℕ, ◌++◌, ◌∷◌, [], length, take, OnOk, OnErr, IfNone, IfSome};
+ghost use Rattle.std.specs.Prelude.{◌≡◌, ℕ, ◌<◌, ◌≤◌, ◌++◌, ◌∷◌, [], length, take, OnOk, OnErr, IfNone, IfSome};
+ghost use Rattle.std.specs.List.Sorted.{IsPermutation};
 ghost use Rattle.lsys_reads.specs.Rows.{has, IsRising, AreRising, tag_row};
 ghost use Rattle.lsys_reads.specs.Relations.{is_settled, SettledStay, Covers, Forgets, AddsPending, SettlesGone, ForgetsGone, SettlesPending, PendingStay};
 
@@ -59,11 +62,12 @@ impl Reads {
         }
     }
 
-    /// Adds the pair to the pending ones, and keeps the room for it.
+    /// Adds the pair to the pending ones, and keeps the room for it. Where there is none left all rows of a direction are
+    /// moved into a vector with half as much room again.
     ///
     /// # Errors
     ///
-    /// Want of memory. Then both relations stay.
+    /// Want of memory, or of numbers: a direction has no more room than 32 bits count. Then both relations stay.
     pub fn add(&mut self, reader: Tag, seen: Tag) -> Result<(), AllocError>
         ensures settled { SettledStay self.old self.new }
         ensures ok { OnOk result (AddsPending reader seen self.old self.new) }
@@ -139,7 +143,8 @@ impl Reads {
     ///
     /// It costs steps by the pairs that come and go. Up to a few hundred of them in one row move the tags behind them,
     /// each for itself; where there may be more, the row is gone through once for all, in steps by its length and the
-    /// logarithm of that. So if the readers in `gone` rise; else a row may be gone through for each of them.
+    /// logarithm of that. So if the readers in `gone` rise; else a row may be gone through for each of them. A row that has
+    /// too little room for what comes is moved, and gets a sixteenth more than it needs.
     pub fn settle(&mut self, gone: &[Tag])
         ensures settled { SettlesGone gone.now self.old self.new }
         ensures pending { self.new.pending ≡ [] }
@@ -170,7 +175,9 @@ impl Reads {
         while let Some(pair) = self.pending.pop() {
             self.by_seen.put(pair.seen, pair.reader);
             self.by_reader.put(pair.reader, pair.seen);
+            give_back(&mut self.pending);
         }
+        self.pending.shrink_to_fit();
     }
 
     /// Sorts the pending pairs by their readers, the highest first.
@@ -178,9 +185,67 @@ impl Reads {
         ensures settled { SettledStay self.old self.new }
         ensures pending { PendingStay self.old self.new }
     {
-        self.pending
-            .sort_unstable_by_key(|pair| Reverse(pair.reader));
+        make_fall(&mut self.pending);
     }
+}
+
+/// How many pending pairs are settled before the room that they took is given back.
+const MANY: usize = 1 << 16;
+
+/// Gives back the room of pairs that are settled, now and then: so all that is pending needn't be held beside all that is settled.
+fn give_back(pending: &mut Vec<Pair>)
+    ensures { pending.new.items ≡ pending.old.items }
+{
+    if pending.len() % MANY == 0 {
+        pending.shrink_to_fit();
+    }
+}
+
+/// Makes the readers of these pairs fall. Where they rise it costs a step for each, and what each of them saw then falls too, if it
+/// was noted from one end to the other, or to both ends from the middle.
+fn make_fall(pairs: &mut Vec<Pair>)
+    ensures { IsPermutation pairs.old.items pairs.new.items }
+{
+    if pairs.iter().is_sorted_by_key(|pair| pair.reader) {
+        turn_falling(pairs);
+        pairs.reverse();
+    } else {
+        pairs.sort_unstable_by_key(|pair| Reverse(pair.reader));
+    }
+}
+
+/// Turns what a reader saw round where it falls.
+fn turn_falling(pairs: &mut [Pair])
+    ensures { IsPermutation pairs.old pairs.new }
+{
+    let mut at = 0;
+    while at < pairs.len() {
+        let end = falling_end(pairs, at);
+        if at + 1 < end {
+            pairs[at..end].reverse();
+        }
+        at = end;
+    }
+}
+
+/// Where what one reader saw falls no more, from this pair on.
+fn falling_end(pairs: &[Pair], at: usize) -> usize
+    requires { at < length pairs.now }
+    ensures further { at < result }
+    ensures within { result ≤ length pairs.now }
+{
+    let mut end = at + 1;
+    while end < pairs.len() && falls(&pairs[at..end], &pairs[end]) {
+        end += 1;
+    }
+    end
+}
+
+/// Whether a reader saw what is lower than the last of these that it saw, or than the one before that: of a branch that it passed it saw
+/// both ends.
+fn falls(before: &[Pair], pair: &Pair) -> bool {
+    before.iter().rev().take(2).any(|earlier| earlier.reader == pair.reader
+        && pair.seen < earlier.seen)
 }
 
 /// Takes all pairs of the reader out of both tables, and from the rows of readers maybe others in `gone`.

@@ -1,224 +1,170 @@
-//! A row: rising tags, and room for more of them.
+//! The cells of one row: its tags stand in the first of them, and rise.
 //!
 //! A change moves the tags behind it. Where many changes may come to one row, it is gone through once for all of them:
-//! what comes is put at the end until the last that is owed, and what goes is taken out together.
-ghost use Rattle.std.specs.Prelude.{◌≡◌, ℕ, ◌+◌, ◌<◌, ◌++◌, ◌∷◌, length, [], ◌||◌, ◌&&◌, ◌==◌, OnOk, OnErr, IfNone, IfSome, true, false};
-ghost use Rattle.lsys_reads.specs.Rows.{Row, empty_row, IsRising, has, Sweeps, LosesTag};
+//! what comes is put at the end while more than a few are owed, and what goes is taken out together.
+ghost use Rattle.std.specs.Prelude.{◌≡◌, ℕ, ◌+◌, ◌<◌, ◌≤◌, ◌||◌, ◌&&◌, ◌==◌, not, length, take, true};
+ghost use Rattle.std.specs.Ordering.{nat_cmp};
+ghost use Rattle.std.specs.List.{insert};
+ghost use Rattle.std.specs.List.Sorted.{IsSorted};
+ghost use Rattle.lsys_reads.specs.Rows.{IsRising, has, few, Sweeps};
 
 use lsys_level::Tag;
-use std::alloc::{AllocError, Global};
-use std::marker::Model;
 
 /// How many changes of a row are made one by one; where there may be more, the row is gone through once.
-const FEW: usize = 256;
+pub(crate) const FEW: usize = 256;
 
-/// Tags, and for how many more the room is kept.
+/// Puts the tag among the first `len`, where `owed` are still to come, and answers how many they are now.
 ///
-/// They rise unless `mixed` is set. Then some stand at the end until all that is owed has come.
-#[derive(Drop)]
-pub(crate) struct Row {
-    alloc: Global,
-    tags: Vec<Tag>,
-    owed: usize,
-    mixed: bool,
+/// While more than a few are owed they needn't rise.
+pub(crate) fn put(cells: &mut [Tag], len: usize, owed: usize, tag: Tag) -> usize
+    requires room { len + owed ≤ length cells.old }
+    requires some { 0 < owed }
+    requires rising { owed ≤ few → IsRising (take len cells.old) }
+    ensures tags { (q : ℕ) → has (take result cells.new) q ≡ (tag == q || has (take len cells.old) q) }
+    ensures rising { owed ≤ few + 1 → IsRising (take result cells.new) }
+    ensures most { result ≤ len + 1 }
+    ensures cells { length cells.new ≡ length cells.old }
+{
+    if owed <= FEW {
+        return insert(cells, len, tag);
+    }
+    cells[len] = tag;
+    if owed > FEW + 1 {
+        return len + 1;
+    }
+    order(cells, len + 1)
 }
 
-impl Model for Row {
-    ghost use Rattle.std.specs.Prelude.{◌≡◌, false, length, vec_capacity, ◌+◌, ◌≤◌};
-    ghost use Rattle.lsys_reads.specs.Rows.{Row, row_code, IsRising};
-
-    ghost Value = { Row };
-
-    ghost coded = { row_code };
-
-    ghost view = { λ r. record { tags = r.tags.items; owed = r.owed } };
-
-    ghost invariant = { λ r. (r.mixed ≡ false → IsRising r.tags.items) × (length r.tags.items + r.owed ≤ vec_capacity r.tags) };
+/// Puts the tag in where it belongs.
+fn insert(cells: &mut [Tag], len: usize, tag: Tag) -> usize
+    requires room { len < length cells.old }
+    requires rising { IsRising (take len cells.old) }
+    ensures tags { (q : ℕ) → has (take result cells.new) q ≡ (tag == q || has (take len cells.old) q) }
+    ensures rising { IsRising (take result cells.new) }
+    ensures most { result ≤ len + 1 }
+    ensures cells { length cells.new ≡ length cells.old }
+{
+    if len == 0 || cells[len - 1] < tag {
+        cells[len] = tag;
+        return len + 1;
+    }
+    if tag < cells[0] {
+        return put_at(cells, len, 0, tag);
+    }
+    match cells[..len].binary_search(&tag) {
+        Ok(_) => len,
+        Err(place) => put_at(cells, len, place, tag),
+    }
 }
 
-impl Row {
-    /// A row with no tags. It takes no memory.
-    pub(crate) fn new(alloc: Global) -> Row
-        ensures { result ≡ empty_row }
-    {
-        Row {
-            alloc,
-            tags: Vec::new(alloc),
-            owed: 0,
-            mixed: false,
-        }
-    }
+/// Puts the tag at this place among the first `len`: those from there on move by one.
+fn put_at(cells: &mut [Tag], len: usize, place: usize, tag: Tag) -> usize
+    requires room { len < length cells.old }
+    requires place { place ≤ len }
+    ensures tags { take result cells.new ≡ insert (take len cells.old) place tag }
+    ensures more { result ≡ len + 1 }
+    ensures cells { length cells.new ≡ length cells.old }
+{
+    cells[len] = tag;
+    cells[place..len + 1].rotate_right(1);
+    len + 1
+}
 
-    /// Keeps room for one tag more.
-    pub(crate) fn reserve(&mut self) -> Result<(), AllocError>
-        ensures ok { OnOk result (self.new ≡ record self.old { owed = self.old.owed + 1 }) }
-        ensures err { OnErr result (self.new ≡ self.old) }
-    {
-        self.tags.reserve(self.owed + 1)?;
-        self.owed += 1;
-        Ok(())
+/// Makes the first `len` tags rise, each once. Where they rise or fall already it costs a step for each.
+fn order(cells: &mut [Tag], len: usize) -> usize
+    requires room { len ≤ length cells.old }
+    ensures tags { (q : ℕ) → has (take result cells.new) q ≡ has (take len cells.old) q }
+    ensures rising { IsRising (take result cells.new) }
+    ensures most { result ≤ len }
+    ensures cells { length cells.new ≡ length cells.old }
+{
+    if is_rising(&cells[..len]) {
+        return len;
     }
-
-    /// Gives back the room for one tag.
-    pub(crate) fn release(&mut self)
-        requires { 0 < self.old.owed }
-        ensures tags { self.new.tags ≡ self.old.tags }
-        ensures owed { self.new.owed + 1 ≡ self.old.owed }
-    {
-        self.owed -= 1;
+    cells[..len].reverse();
+    if is_rising(&cells[..len]) {
+        return len;
     }
+    cells[..len].sort_unstable();
+    dedup(cells, len)
+}
 
-    /// Puts the tag in, in the room that is kept. With the last that is owed the tags rise. It takes no memory.
-    pub(crate) fn put(&mut self, tag: Tag)
-        requires { 0 < self.old.owed }
-        ensures tags { (q : ℕ) → has self.new.tags q ≡ ((tag == q) || has self.old.tags q) }
-        ensures owed { self.new.owed + 1 ≡ self.old.owed }
-        ensures rising { self.new.owed ≡ 0 → IsRising self.new.tags }
-    {
-        if self.mixed || self.owed > FEW {
-            self.append(tag);
-            if self.owed == 0 && self.mixed {
-                self.order();
-            }
-        } else {
-            self.insert(tag);
-        }
-    }
-
-    /// Puts the tag in where it belongs.
-    fn insert(&mut self, tag: Tag)
-        requires owed { 0 < self.old.owed }
-        requires rising { IsRising self.old.tags }
-        ensures tags { (q : ℕ) → has self.new.tags q ≡ ((tag == q) || has self.old.tags q) }
-        ensures owed { self.new.owed + 1 ≡ self.old.owed }
-        ensures rising { IsRising self.new.tags }
-    {
-        self.owed -= 1;
-        if let Err(place) = self.tags.binary_search(&tag) {
-            match self.tags.insert(place, tag) {
-                Ok(()) => {}
-                Err(_) => unreachable!(),
-            }
-        }
-    }
-
-    /// Puts the tag at the end.
-    fn append(&mut self, tag: Tag)
-        requires { 0 < self.old.owed }
-        ensures tags { (q : ℕ) → has self.new.tags q ≡ ((tag == q) || has self.old.tags q) }
-        ensures owed { self.new.owed + 1 ≡ self.old.owed }
-    {
-        let rises = self.rises_with(tag);
-        self.owed -= 1;
-        self.mixed = !rises;
-        match self.tags.push(tag) {
-            Ok(()) => {}
-            Err(_) => unreachable!(),
-        }
-    }
-
-    /// Whether the tags surely rise with this one at the end.
-    fn rises_with(&self, tag: Tag) -> bool
-        ensures { result ≡ true → IsRising (self.now.tags ++ tag ∷ []) }
-    {
-        if self.mixed {
+/// Whether each tag is below the next.
+fn is_rising(tags: &[Tag]) -> bool
+    ensures { result ≡ true → IsRising tags.now }
+{
+    let mut at = 1;
+    while at < tags.len() {
+        if tags[at - 1] >= tags[at] {
             return false;
         }
-        match self.tags.last() {
-            Some(last) => *last < tag,
-            None => true,
+        at += 1;
+    }
+    true
+}
+
+/// Keeps each of the first `len` tags once.
+fn dedup(cells: &mut [Tag], len: usize) -> usize
+    requires room { len ≤ length cells.old }
+    requires sorted { IsSorted nat_cmp (take len cells.old) }
+    ensures tags { (q : ℕ) → has (take result cells.new) q ≡ has (take len cells.old) q }
+    ensures rising { IsRising (take result cells.new) }
+    ensures most { result ≤ len }
+    ensures cells { length cells.new ≡ length cells.old }
+{
+    let mut kept = 0;
+    let mut at = 0;
+    while at < len {
+        let tag = cells[at];
+        if kept == 0 || cells[kept - 1] < tag {
+            cells[kept] = tag;
+            kept += 1;
         }
+        at += 1;
     }
+    kept
+}
 
-    /// Makes the tags rise, each once.
-    fn order(&mut self)
-        ensures tags { (q : ℕ) → has self.new.tags q ≡ has self.old.tags q }
-        ensures owed { self.new.owed ≡ self.old.owed }
-        ensures rising { IsRising self.new.tags }
-    {
-        self.tags.sort_unstable();
-        self.tags.dedup();
-        self.mixed = false;
+/// Takes the tag out of the first `len`, if it is there, and where many of `gone` may be there, those too. It answers how
+/// many are left.
+pub(crate) fn sweep(cells: &mut [Tag], len: usize, tag: Tag, gone: &[Tag]) -> usize
+    requires room { len ≤ length cells.old }
+    requires rising { IsRising (take len cells.old) }
+    ensures tags { Sweeps (take len cells.old) (take result cells.new) tag gone.now }
+    ensures rising { IsRising (take result cells.new) }
+    ensures most { result ≤ len }
+    ensures cells { length cells.new ≡ length cells.old }
+{
+    let Ok(place) = cells[..len].binary_search(&tag) else {
+        return len;
+    };
+    if gone.len() > FEW && len > FEW {
+        return cut_all(cells, len, tag, gone);
     }
+    cells[place..len].rotate_left(1);
+    len - 1
+}
 
-    /// Takes the tag out, if it is there; and where many of `gone` may be there, those too.
-    pub(crate) fn sweep(&mut self, tag: Tag, gone: &[Tag])
-        requires rising { IsRising self.old.tags }
-        ensures tags { Sweeps self.old.tags self.new.tags tag gone.now }
-        ensures owed { self.new.owed ≡ self.old.owed }
-        ensures rising { IsRising self.new.tags }
-    {
-        if gone.len() <= FEW || self.tags.len() <= FEW {
-            self.cut(tag);
-        } else if self.contains(tag) {
-            self.cut_all(tag, gone);
+/// Takes the tag out, and others of `gone`: all of them, where `gone` rises.
+fn cut_all(cells: &mut [Tag], len: usize, tag: Tag, gone: &[Tag]) -> usize
+    requires room { len ≤ length cells.old }
+    requires rising { IsRising (take len cells.old) }
+    ensures tags { Sweeps (take len cells.old) (take result cells.new) tag gone.now }
+    ensures rising { IsRising (take result cells.new) }
+    ensures most { result ≤ len }
+    ensures cells { length cells.new ≡ length cells.old }
+{
+    let mut kept = 0;
+    let mut at = 0;
+    while at < len {
+        let other = cells[at];
+        if other != tag && !is_found(other, gone) {
+            cells[kept] = other;
+            kept += 1;
         }
+        at += 1;
     }
-
-    /// Whether the tag is there.
-    fn contains(&self, tag: Tag) -> bool
-        requires rising { IsRising self.now.tags }
-        ensures { result ≡ has self.now.tags tag }
-    {
-        self.tags.binary_search(&tag).is_ok()
-    }
-
-    /// Takes the tag out, if it is there.
-    fn cut(&mut self, tag: Tag)
-        requires rising { IsRising self.old.tags }
-        ensures tags { LosesTag tag self.old.tags self.new.tags }
-        ensures owed { self.new.owed ≡ self.old.owed }
-        ensures rising { IsRising self.new.tags }
-    {
-        if let Ok(place) = self.tags.binary_search(&tag) {
-            self.tags.remove(place);
-        }
-    }
-
-    /// Takes the tag out, and others of `gone`: all of them, where `gone` rises.
-    fn cut_all(&mut self, tag: Tag, gone: &[Tag])
-        requires rising { IsRising self.old.tags }
-        ensures tags { Sweeps self.old.tags self.new.tags tag gone.now }
-        ensures owed { self.new.owed ≡ self.old.owed }
-        ensures rising { IsRising self.new.tags }
-    {
-        self.tags
-            .retain(|other| *other != tag && !is_found(*other, gone));
-    }
-
-    /// Takes the last tag out.
-    pub(crate) fn pop(&mut self) -> Option<Tag>
-        requires rising { IsRising self.old.tags }
-        ensures none { IfNone result (self.old.tags ≡ []) }
-        ensures same { IfNone result (self.new ≡ self.old) }
-        ensures some { IfSome result (λ tag. has self.old.tags tag ≡ true) }
-        ensures tags { IfSome result (λ tag. LosesTag tag self.old.tags self.new.tags) }
-        ensures shorter { IfSome result (λ tag. length self.new.tags < length self.old.tags) }
-        ensures owed { self.new.owed ≡ self.old.owed }
-        ensures rising { IsRising self.new.tags }
-    {
-        let len = self.tags.len();
-        if len == 0 {
-            return None;
-        }
-        Some(self.tags.remove(len - 1))
-    }
-
-    /// The tags.
-    pub(crate) fn tags(&self) -> &[Tag]
-        ensures { result.now ≡ self.now.tags }
-    {
-        &self.tags
-    }
-
-    /// Gives back the memory of a row that has no tags and keeps no room.
-    pub(crate) fn trim(&mut self)
-        ensures { self.new ≡ self.old }
-    {
-        if self.owed == 0 && self.tags.is_empty() {
-            self.tags = Vec::new(self.alloc);
-        }
-    }
+    kept
 }
 
 /// Whether a search finds the tag among these: only if it is there, and surely where they rise.

@@ -1,28 +1,38 @@
 //! The rows by their tags.
-ghost use Rattle.std.specs.Prelude.{◌≡◌, ◌<◌, List, [], length, OnOk, OnErr, IfNone, IfSome, true};
-ghost use Rattle.lsys_reads.specs.Rows.{Row, tag_row, has, IsRising, SameRows, Cuts, SweepsRow, PutsTag, Reserves, RowShrinks};
+//!
+//! All rows stand in one vector of cells. A row is placed when it gets tags that its cells have no room for: at the end,
+//! with as many cells as it has tags and is owed.
+ghost use Rattle.std.specs.Prelude.{◌≡◌, ◌<◌, ◌≤◌, ◌+◌, List, [], length, OnOk, OnErr, IfNone, IfSome, true};
+ghost use Rattle.lsys_reads.specs.Rows.{Row, tag_row, has, few, IsRising, SameRows, Cuts, SweepsRow, PutsTag, Reserves, RowShrinks};
 
-use crate::row::Row;
+use crate::head::{Head, kept_for};
+use crate::pack::{placed, provide};
+use crate::row;
 use lsys_level::Tag;
 use std::alloc::{AllocError, Global};
 use std::marker::Model;
 
-/// A row for each tag.
+/// A row for each tag, and how many cells are kept behind all rows for those that are to be placed.
 #[derive(Drop)]
 pub(crate) struct Table {
     alloc: Global,
-    rows: Vec<Row>,
+    heads: Vec<Head>,
+    cells: Vec<Tag>,
+    kept: usize,
 }
 
 impl Model for Table {
-    ghost use Rattle.std.specs.Prelude.{List};
+    ghost use Rattle.std.specs.Prelude.{List, length, vec_capacity};
     ghost use Rattle.lsys_reads.specs.Rows.{Row, rows_code};
+    ghost use Rattle.lsys_reads.specs.Layout.{rows_of, AreSoundRows};
 
     ghost Value = { List Row };
 
     ghost coded = { rows_code };
 
-    ghost view = { λ t. t.rows.items };
+    ghost view = { λ t. rows_of t.cells.items t.heads.items };
+
+    ghost invariant = { λ t. AreSoundRows t.heads.items (length t.cells.items) t.kept (vec_capacity t.cells) };
 }
 
 impl Table {
@@ -32,19 +42,20 @@ impl Table {
     {
         Table {
             alloc,
-            rows: Vec::new(alloc),
+            heads: Vec::new(alloc),
+            cells: Vec::new(alloc),
+            kept: 0,
         }
     }
 
     /// Makes the table reach to the tag.
-    #[tactic(auto, using(crate::proofs::RowLemmas::row_at_push))]
     fn reach(&mut self, tag: Tag) -> Result<(), AllocError>
         ensures rows { SameRows self.old self.new }
         ensures reach { OnOk result (tag < length self.new) }
     {
         let last = tag.0 as usize;
-        while self.rows.len() <= last {
-            self.rows.push(Row::new(self.alloc))?;
+        while self.heads.len() <= last {
+            self.heads.push(Head::new())?;
         }
         Ok(())
     }
@@ -55,7 +66,23 @@ impl Table {
         ensures err { OnErr result (SameRows self.old self.new) }
     {
         self.reach(tag)?;
-        self.rows[tag.0 as usize].reserve()
+        self.owe(tag)
+    }
+
+    /// Keeps room for one tag more in a row that is there.
+    fn owe(&mut self, tag: Tag) -> Result<(), AllocError>
+        requires { tag < length self.old }
+        ensures ok { OnOk result (Reserves self.old self.new tag) }
+        ensures err { OnErr result (SameRows self.old self.new) }
+    {
+        let place = tag.0 as usize;
+        let head = self.heads[place];
+        let due = head.due() + 1;
+        let kept = self.kept - head.wanted() + kept_for(due, head.room as usize);
+        provide(self.alloc, &mut self.heads, &mut self.cells, kept)?;
+        self.heads[place].owed += 1;
+        self.kept = kept;
+        Ok(())
     }
 
     /// Gives back the room for one tag in the row of this tag.
@@ -63,18 +90,30 @@ impl Table {
         requires { 0 < (tag_row self.old tag).owed }
         ensures { Reserves self.new self.old tag }
     {
-        let row = &mut self.rows[tag.0 as usize];
-        row.release();
-        row.trim();
+        let place = tag.0 as usize;
+        let head = self.heads[place];
+        let owed = head.owed - 1;
+        let less = Head { owed, ..head };
+        self.heads[place] = less.trimmed();
+        self.kept = self.kept - head.wanted() + less.wanted();
     }
 
-    /// Puts `other` into the row of this tag. With the last that is owed the row rises. It takes no memory.
+    /// Puts `other` into the row of this tag. With the last few that are owed the row rises. It takes no memory.
     pub(crate) fn put(&mut self, tag: Tag, other: Tag)
-        requires { 0 < (tag_row self.old tag).owed }
+        requires owed { 0 < (tag_row self.old tag).owed }
+        requires rising { (tag_row self.old tag).owed ≤ few → IsRising (tag_row self.old tag).tags }
         ensures puts { PutsTag self.old self.new tag other }
-        ensures rising { (tag_row self.new tag).owed ≡ 0 → IsRising (tag_row self.new tag).tags }
+        ensures rising { (tag_row self.new tag).owed ≤ few → IsRising (tag_row self.new tag).tags }
     {
-        self.rows[tag.0 as usize].put(other);
+        let place = tag.0 as usize;
+        let was = self.heads[place];
+        let head = placed(&mut self.cells, was);
+        let start = head.start as usize;
+        let cells = &mut self.cells[start..start + head.room as usize];
+        let len = row::put(cells, head.len as usize, head.owed as usize, other) as u32;
+        let owed = head.owed - 1;
+        self.heads[place] = Head { len, owed, ..head };
+        self.kept -= was.wanted();
     }
 
     /// Takes `other` out of the row of this tag, if it is there, and maybe others of `gone`.
@@ -82,11 +121,17 @@ impl Table {
         requires rising { IsRising (tag_row self.old tag).tags }
         ensures { SweepsRow self.old self.new tag other gone.now }
     {
-        if (tag.0 as usize) < self.rows.len() {
-            let row = &mut self.rows[tag.0 as usize];
-            row.sweep(other, gone);
-            row.trim();
+        let place = tag.0 as usize;
+        if self.heads.len() <= place {
+            return;
         }
+        let head = self.heads[place];
+        let start = head.start as usize;
+        let cells = &mut self.cells[start..start + head.room as usize];
+        let len = row::sweep(cells, head.len as usize, other, gone) as u32;
+        let less = Head { len, ..head };
+        self.heads[place] = less.trimmed();
+        self.kept = self.kept - head.wanted() + less.wanted();
     }
 
     /// Takes the last tag out of the row of this tag.
@@ -99,21 +144,31 @@ impl Table {
         ensures shorter { IfSome result (λ other. RowShrinks tag self.old self.new) }
         ensures rising { IsRising (tag_row self.new tag).tags }
     {
-        if self.rows.len() <= tag.0 as usize {
+        let place = tag.0 as usize;
+        if self.heads.len() <= place {
             return None;
         }
-        let row = &mut self.rows[tag.0 as usize];
-        let other = row.pop();
-        row.trim();
-        other
+        let head = self.heads[place];
+        if head.len == 0 {
+            return None;
+        }
+        let len = head.len - 1;
+        let other = self.cells[head.start as usize + len as usize];
+        let less = Head { len, ..head };
+        self.heads[place] = less.trimmed();
+        self.kept = self.kept - head.wanted() + less.wanted();
+        Some(other)
     }
 
     /// The row of this tag.
     pub(crate) fn tags(&self, tag: Tag) -> &[Tag]
         ensures { result.now ≡ (tag_row self.now tag).tags }
     {
-        match self.rows.get(tag.0 as usize) {
-            Some(row) => row.tags(),
+        match self.heads.get(tag.0 as usize) {
+            Some(head) => {
+                let start = head.start as usize;
+                &self.cells[start..start + head.len as usize]
+            }
             None => &[],
         }
     }

@@ -1,6 +1,45 @@
-use Rattle.std.proofs.Common.{arith}
-use Rattle.std.proofs.lemmas.Grind.{common_steps}
+use Rattle.std.proofs.Common.{◌≡◌, ◌<◌, ◌-◌, ◌+◌, ℕ, List, length, set, refl, sym, subst, arith, rules}
+use Rattle.std.specs.Prelude.{vec_capacity}
+use Rattle.std.proofs.lemmas.List.{get_or_read}
+use Rattle.lsys_reads.specs.declared.head.Head.{Head}
+use Rattle.lsys_reads.specs.Rows.{Row, tag_row, Reserves}
+use Rattle.lsys_reads.specs.Layout.{empty_head, head_at, row_in_cells, rows_of}
+use Rattle.lsys_reads.proofs.ChangeLemmas.{Turns, turns_less, old_row, reaches, releases}
 use Rattle.lsys_reads.proofs.table.Table.release.Goals as goal
 
+abbrev less : Head → Head
+less h = record { start = h.start; room = h.room; len = h.len; owed = h.owed - 1 }
+
+owed : (c : goal.After-self-2-1) → 0 < (tag_row (rows_of c.self.inside.cells.items c.self.inside.heads.items) c.tag.inside.0).owed
+owed c =
+    subst (λ (m : ℕ). 0 < (tag_row (rows_of c.self.inside.cells.items c.self.inside.heads.items) m).owed) (sym c.tag.view_is)
+    (subst (λ (r : List Row). 0 < (tag_row r c.args.tag).owed) (sym c.self.view_is) c.requires)
+
+there : (c : goal.After-self-2-1) → c.tag.inside.0 < length c.self.inside.heads.items
+there c = reaches c.self.inside.cells.items c.self.inside.heads.items c.tag.inside.0 (owed c)
+
+turns : (c : goal.After-self-2-1) → Turns c.self.inside.cells.items c.self.inside.cells.items c.self.inside.heads.items c.tag.inside.0 c.trimmed.result
+    (row_in_cells c.self.inside.cells.items (less c.index-head.result.now)) (c.self.inside.kept - c.wanted.result + c.wanted-2.result) (vec_capacity c.self.inside.cells)
+turns c =
+    let t = c.self.inside in
+    let h = c.index-head.result.now in
+    let within = there c in
+    turns_less t.cells.items t.cells.items t.heads.items c.tag.inside.0 t.kept c.wanted.result c.wanted-2.result (vec_capacity t.cells) h (less h) c.trimmed.result
+    c.self.invariant within (get_or_read t.heads.items c.tag.inside.0 h within (search rules) empty_head) refl refl (omega arith) (omega arith) refl (λ k _. refl)
+    c.trimmed.ensures c.wanted.ensures.value c.wanted-2.ensures.value
+
+pub invariant_of-self : goal.invariant_of-self
+invariant_of-self c = (turns c).sound
+
 pub returns : goal.returns
-returns c = grind (arith, common_steps)
+returns c =
+    let t = c.self.inside in
+    let n = c.tag.inside.0 in
+    let h = c.index-head.result.now in
+    let within = there c in
+    let is : h ≡ head_at t.heads.items n = get_or_read t.heads.items n h within (search rules) empty_head in
+    let rows = rows_of t.cells.items (set t.heads.items n c.trimmed.result) in
+    let some : 0 < h.owed = subst (λ (r : Row). 0 < r.owed) (old_row t.cells.items t.heads.items n h is) (owed c) in
+    subst (λ (r : List Row). Reserves rows r c.args.tag) c.self.view_is
+    (subst (λ (m : ℕ). Reserves rows (rows_of t.cells.items t.heads.items) m) c.tag.view_is
+    (releases t.cells.items t.heads.items n (t.kept - c.wanted.result + c.wanted-2.result) (vec_capacity t.cells) h (less h) c.trimmed.result is some refl (turns c)))
