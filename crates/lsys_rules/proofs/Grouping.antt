@@ -2,8 +2,7 @@
 use Rattle.std.proofs.Common.{◌≡◌, ℕ, not, zero, suc, ◌+◌, ◌<◌, ◌≤◌, Bool, true, false, ◌&&◌, ◌==◌, List, [], ◌∷◌, ◌++◌, length, take, filter, map, cond, get_or, refl, ap, ap₂, sym, ◌∙◌, arith, bytes_eq, if◌then◌else◌, add-one}
 use Rattle.std.specs.Prelude.{IfSome, Option, Some, None}
 use Rattle.std.specs.Option.{option_map}
-use Rattle.std.specs.HashMap.{HashMap, get}
-use Rattle.std.specs.Map.{lookup}
+use Rattle.std.specs.HashMap.{HashMap}
 use Rattle.std.proofs.lemmas.List.{length-map, append-nil}
 use Rattle.std.proofs.lemmas.List.Elements.{filter-append}
 use Rattle.std.proofs.lemmas.List.Filters.{length-filter_both}
@@ -24,7 +23,7 @@ use Rattle.lsys_module.specs.Views.{module_name}
 use Rattle.lsys_module.proofs.Names.{same_name-module_name}
 use Rattle.lsys_bodies.specs.declared.rule.Rule.{Rule}
 use Rattle.lsys_bodies.specs.Views.{as_production, rule_of}
-use Rattle.lsys_rules.specs.Groups.{same_key, group_key, rules_or_none, rules_at, with_rule, HasRule, AreGroups}
+use Rattle.lsys_rules.specs.Groups.{same_key, group_key, rules_or_none, rules_at, with_rule, is_of, IsGroup, AreGroups}
 use Rattle.lsys_rules.specs.declared.groups.GroupKey.{GroupKey}
 use Rattle.lsys_rules.specs.declared.shared_group.SharedGroup.{SharedGroup}
 
@@ -52,7 +51,7 @@ map_more f [] x = refl
 map_more f (y ∷ xs) x = ap (λ t. f y ∷ t) (map_more f xs x)
 
 -- a rule is of the group of its key
-own_group : (r : Rule) (key : GroupKey) (table name : List ℕ) (arity : ℕ) → key.table ≡ r.table → key.name ≡ packed r.body.predecessor.name → key.arity ≡ length r.body.predecessor.formals.items
+pub own_group : (r : Rule) (key : GroupKey) (table name : List ℕ) (arity : ℕ) → key.table ≡ r.table → key.name ≡ packed r.body.predecessor.name → key.arity ≡ length r.body.predecessor.formals.items
     → IsNameBytes r.body.predecessor.name → IsNameBytes name → same_key key (group_key table name arity) ≡ is_for table (module_name name) arity (as_production r)
 own_group r key table name arity e f g h k =
     let names : (key.name == packed name) ≡ same_name (module_name r.body.predecessor.name) (module_name name) =
@@ -68,18 +67,7 @@ filter_more p xs x = filter-append p xs (x ∷ []) ∙ by (p x)
     by true = refl
     by false = append-nil (filter p xs)
 
--- one more rule
-pub group_step : {S : Type 0} (old new : HashMap GroupKey SharedGroup S) (rs : List Rule) (i : ℕ) (r : Rule) (key : GroupKey) → i < length rs → r ≡ get_or rs i r
-    → key.table ≡ r.table → key.name ≡ packed r.body.predecessor.name → key.arity ≡ length r.body.predecessor.formals.items → IsNameBytes r.body.predecessor.name
-    → AreGroups old (take i rs) → HasRule old new key r → AreGroups new (take (i + 1) rs)
-group_step old new rs i r key h e t n a form all put table name arity k =
-    let p : Rule → Bool = λ q. is_for table (module_name name) arity (as_production q) in
-    put (group_key table name arity)
-    ∙ ap₂ (λ b xs. with_rule b xs r) (own_group r key table name arity t n a form k) (all table name arity k)
-    ∙ sym (filter_more p (take i rs) r)
-    ∙ ap (filter p) (sym (take_here rs i r h e))
-
-same_keys : (a b : GroupKey) → same_key a b ≡ true → a ≡ b
+pub same_keys : (a b : GroupKey) → same_key a b ≡ true → a ≡ b
 same_keys a b h =
     let table : a.table ≡ b.table = bytes_eq_true a.table b.table (and_left (bytes_eq a.table b.table) _ h) in
     let rest = and_right (bytes_eq a.table b.table) _ h in
@@ -95,20 +83,21 @@ same_keys a b h =
     and_right true y h = h
     and_right false y h = cc
 
--- a rule more in one group
-pub grown : {S : Type 0} (old mid new : HashMap GroupKey SharedGroup S) (key q : GroupKey) (rule : Rule) (group : List Rule)
-    → get same_key mid q ≡ cond (same_key key q) None (get same_key old q) → get same_key new q ≡ cond (same_key key q) (Some group) (get same_key mid q)
-    → group ≡ rules_or_none (get same_key old key) ++ rule ∷ [] → rules_at new q ≡ with_rule (same_key key q) (rules_at old q) rule
-grown old mid new key q rule group removed put is = by (same_key key q) refl removed put
-  where
-    by : (b : Bool) → same_key key q ≡ b → get same_key mid q ≡ cond b None (get same_key old q) → get same_key new q ≡ cond b (Some group) (get same_key mid q)
-        → rules_at new q ≡ with_rule b (rules_at old q) rule
-    by true h removed put = ap rules_or_none put ∙ is ∙ ap (λ k. rules_at old k ++ rule ∷ []) (same_keys key q h)
-    by false h removed put = ap rules_or_none (put ∙ removed)
+-- whether a rule is of a group, told by its key
+own_key : (r : Rule) (of key : GroupKey) (table name : List ℕ) (arity : ℕ) → of.table ≡ r.table → of.name ≡ packed r.body.predecessor.name → of.arity ≡ length r.body.predecessor.formals.items
+    → IsNameBytes r.body.predecessor.name → IsNameBytes name → same_key key (group_key table name arity) ≡ true → same_key of key ≡ is_of r table name arity
+own_key r of key table name arity t n a form k h = ap (same_key of) (same_keys key (group_key table name arity) h) ∙ own_group r of table name arity t n a form k
 
--- without rules
-pub no_groups : {S : Type 0} (groups : HashMap GroupKey SharedGroup S) → groups.entries ≡ [] → AreGroups groups []
-no_groups groups e table name arity form = ap (λ es. rules_or_none (lookup (same_key (group_key table name arity)) es)) e
+-- one more rule
+pub group_step : (rs : List Rule) (i : ℕ) (r : Rule) (of key : GroupKey) (found more : List Rule) → i < length rs → r ≡ get_or rs i r
+    → of.table ≡ r.table → of.name ≡ packed r.body.predecessor.name → of.arity ≡ length r.body.predecessor.formals.items → IsNameBytes r.body.predecessor.name
+    → more ≡ with_rule (same_key of key) found r → IsGroup (take i rs) key found → IsGroup (take (i + 1) rs) key more
+group_step rs i r of key found more h e t n a form put all table name arity k same =
+    let p : Rule → Bool = λ q. is_of q table name arity in
+    put
+    ∙ ap₂ (λ b xs. with_rule b xs r) (own_key r of key table name arity t n a form k same) (all table name arity k same)
+    ∙ sym (filter_more p (take i rs) r)
+    ∙ ap (filter p) (sym (take_here rs i r h e))
 
 filtered_map : {A B : Type 0} (f : A → B) (p : B → Bool) (xs : List A) → map f (filter (λ x. p (f x)) xs) ≡ filter p (map f xs)
 filtered_map f p [] = refl

@@ -1,6 +1,7 @@
 pub mod Labels
 pub mod OwnOrder
 pub mod Grouping
+pub mod Regrouping
 pub mod Tables
 pub mod Searches
 pub mod Chains

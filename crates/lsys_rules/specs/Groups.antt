@@ -1,5 +1,5 @@
 -- The groups of some rules: those of a table that are for a letter with a number of parameters.
-use Rattle.std.specs.Prelude.{◌≡◌, ℕ, Bool, ◌&&◌, ◌==◌, Option, Some, None, List, [], ◌∷◌, ◌++◌, bytes_eq, filter, option_map, if◌then◌else◌}
+use Rattle.std.specs.Prelude.{◌≡◌, ℕ, Bool, true, false, ◌||◌, ◌&&◌, ◌==◌, Option, Some, None, List, [], ◌∷◌, ◌++◌, bytes_eq, filter, option_map, if◌then◌else◌}
 use denote.Ref.{Bor}
 use Rattle.std.specs.HashMap.{HashMap, get}
 use Rattle.lsys_spec.specs.Bodies.{is_for}
@@ -33,12 +33,46 @@ rules_at groups key = rules_or_none (get same_key groups key)
 abbrev pub with_rule : Bool → List Rule → Rule → List Rule
 with_rule b rules rule = if b then rules ++ rule ∷ [] else rules
 
--- The new groups have one rule more, behind those of the key's group.
-abbrev pub HasRule : {S : Type 0} → HashMap GroupKey SharedGroup S → HashMap GroupKey SharedGroup S → GroupKey → Rule → Type 0
-HasRule old new key rule = (q : GroupKey) → rules_at new q ≡ with_rule (same_key key q) (rules_at old q) rule
+-- whether a rule is one of its table for this letter with so many parameters
+abbrev pub is_of : Rule → List ℕ → List ℕ → ℕ → Bool
+is_of rule table name arity = is_for table (module_name name) arity (as_production rule)
+
+-- whether there is a rule, and it is
+abbrev pub is_some_of : Option Rule → List ℕ → List ℕ → ℕ → Bool
+is_some_of None table name arity = false
+is_some_of (Some rule) table name arity = is_of rule table name arity
+
+-- whether this rule is, or the other one, where there is one
+abbrev pub is_of_either : Rule → Option Rule → List ℕ → List ℕ → ℕ → Bool
+is_of_either rule other table name arity = is_of rule table name arity || is_some_of other table name arity
+
+-- of these rules, those of a table that are for a letter with so many parameters, in order
+abbrev pub group_of : List Rule → List ℕ → List ℕ → ℕ → List Rule
+group_of rules table name arity = filter (λ r. is_of r table name arity) rules
+
+-- The group has the rules of its key among these.
+abbrev pub IsGroup : List Rule → GroupKey → List Rule → Type 0
+IsGroup rules key group =
+    (table name : List ℕ) (arity : ℕ) → IsNameBytes name
+    → same_key key (group_key table name arity) ≡ true → group ≡ group_of rules table name arity
 
 -- The rules of each group are those of its table that are for its letter, in order.
 abbrev pub AreGroups : {S : Type 0} → HashMap GroupKey SharedGroup S → List Rule → Type 0
 AreGroups groups rules =
     (table name : List ℕ) (arity : ℕ) → IsNameBytes name
-    → rules_at groups (group_key table name arity) ≡ filter (λ r. is_for table (module_name name) arity (as_production r)) rules
+    → rules_at groups (group_key table name arity) ≡ group_of rules table name arity
+
+-- At the key the new groups have this one, and the others are as they were.
+abbrev pub HasGroup : {S : Type 0} → HashMap GroupKey SharedGroup S → HashMap GroupKey SharedGroup S → GroupKey → List Rule → Type 0
+HasGroup old new key group = (q : GroupKey) → rules_at new q ≡ (if same_key key q then group else rules_at old q)
+
+-- The new groups of some keys are those of these rules, and the others are as they were.
+abbrev pub AreRegrouped : {S : Type 0} → HashMap GroupKey SharedGroup S → HashMap GroupKey SharedGroup S → List Rule → (List ℕ → List ℕ → ℕ → Bool) → Type 0
+AreRegrouped old new rules anew =
+    (table name : List ℕ) (arity : ℕ) → IsNameBytes name
+    → rules_at new (group_key table name arity)
+    ≡ (if anew table name arity then group_of rules table name arity else rules_at old (group_key table name arity))
+
+-- There is another rule, and it is of the groups that this one is of.
+abbrev pub AreOfOne : Option Rule → Rule → Type 0
+AreOfOne other rule = (table name : List ℕ) (arity : ℕ) → IsNameBytes name → is_some_of other table name arity ≡ is_of rule table name arity

@@ -1,8 +1,8 @@
 //! The groups of rules: which rules of a table are for a letter with a number of parameters.
-ghost use Rattle.std.specs.Prelude.{◌≡◌, ◌++◌, ◌∷◌, [], IfOk, OnOk, length};
+ghost use Rattle.std.specs.Prelude.{◌≡◌, IfOk, IsTrue, OnOk, length};
 ghost use Rattle.lsys_text.specs.Packed.{packed};
 ghost use Rattle.lsys_text.specs.Texts.{IsNameBytes};
-ghost use Rattle.lsys_rules.specs.Groups.{AreGroups, HasRule, rules_at, rules_or_none, found_rules};
+ghost use Rattle.lsys_rules.specs.Groups.{AreOfOne, AreRegrouped, HasGroup, IsGroup, found_rules, is_of, is_of_either, is_some_of, rules_at, rules_or_none};
 
 use crate::shared_group::SharedGroup;
 use lsys_bodies::Rule;
@@ -48,38 +48,104 @@ impl GroupKey {
     }
 }
 
-// The groups of some rules.
-pub(crate) fn groups_of(alloc: Global, rules: &[Rule]) -> Result<Groups, AllocError>
-    ensures { IfOk result (λ groups. AreGroups groups rules.now) }
+// The groups before, which keep their blocks, but for that of a rule that is gone, where there is one: it is built anew
+// from these rules.
+pub(crate) fn groups_without(
+    alloc: Global,
+    old: &Groups,
+    rules: &[Rule],
+    gone: &Option<Rule>,
+) -> Result<Groups, AllocError>
+    ensures { IfOk result (λ g. AreRegrouped old.now g rules.now (is_some_of gone.now)) }
 {
-    let mut groups = HashMap::new(alloc);
-    for rule in rules {
-        add_rule(alloc, &mut groups, GroupKey::of(rule), rule.clone()?)?;
+    let mut groups = copy_of(old)?;
+    if let Some(rule) = gone {
+        regroup(alloc, &mut groups, rules, rule)?;
     }
     Ok(groups)
 }
 
-// Adds a rule behind those of its group.
-fn add_rule(alloc: Global, groups: &mut Groups, key: GroupKey, rule: Rule) -> Result<(), AllocError>
-    ensures { OnOk result (HasRule groups.old groups.new key rule) }
+// The groups before, which keep their blocks, but for that of a rule that came and that of the one whose place it took,
+// where there is one: they are built anew from these rules, once where they are one group.
+pub(crate) fn groups_with(
+    alloc: Global,
+    old: &Groups,
+    rules: &[Rule],
+    rule: &Rule,
+    gone: &Option<Rule>,
+) -> Result<Groups, AllocError>
+    ensures { IfOk result (λ g. AreRegrouped old.now g rules.now (is_of_either rule.now gone.now)) }
 {
-    let group = with_rule(alloc, groups.remove(&key), rule)?;
-    groups.insert(key, group)?;
-    Ok(())
+    let mut groups = if has_same_group(gone, rule) {
+        copy_of(old)?
+    } else {
+        groups_without(alloc, old, rules, gone)?
+    };
+    regroup(alloc, &mut groups, rules, rule)?;
+    Ok(groups)
 }
 
-// The group with one rule more, which is its first one where there was none.
-fn with_rule(
+// Whether a rule is gone, and it was of the group of this one.
+fn has_same_group(gone: &Option<Rule>, rule: &Rule) -> bool
+    ensures { IsTrue result → AreOfOne gone.now rule.now }
+{
+    match gone {
+        Some(gone) => GroupKey::of(gone) == GroupKey::of(rule),
+        None => false,
+    }
+}
+
+// A copy of these groups, which shares their blocks.
+fn copy_of(groups: &Groups) -> Result<Groups, AllocError>
+    ensures { IfOk result (λ copy. copy.entries ≡ groups.now.entries) }
+{
+    groups.clone()
+}
+
+// Builds the group of a rule anew from these rules, with a look at the key of each.
+fn regroup(
     alloc: Global,
+    groups: &mut Groups,
+    rules: &[Rule],
+    rule: &Rule,
+) -> Result<(), AllocError>
+    ensures { OnOk result (AreRegrouped groups.old groups.new rules.now (is_of rule.now)) }
+{
+    let key = GroupKey::of(rule);
+    let group = SharedGroup::of(alloc, rules_of(alloc, rules, key)?)?;
+    set_group(groups, key, group)
+}
+
+// The rules of a group among these, in order.
+fn rules_of(alloc: Global, rules: &[Rule], key: GroupKey) -> Result<Vec<Rule>, AllocError>
+    ensures { IfOk result (λ found. IsGroup rules.now key found.items) }
+{
+    let mut found = Vec::new(alloc);
+    for rule in rules {
+        if GroupKey::of(rule) == key {
+            found.push(rule.clone()?)?;
+        }
+    }
+    Ok(found)
+}
+
+// Puts a group under its key, or takes away what stands there where it has no rule.
+fn set_group(
+    groups: &mut Groups,
+    key: GroupKey,
     group: Option<SharedGroup>,
-    rule: Rule,
-) -> Result<SharedGroup, AllocError>
-    ensures { IfOk result (λ g. g ≡ rules_or_none group ++ rule ∷ []) }
+) -> Result<(), AllocError>
+    ensures { OnOk result (HasGroup groups.old groups.new key (rules_or_none group)) }
 {
     match group {
-        Some(group) => group.with(alloc, rule),
-        None => SharedGroup::of(alloc, rule),
+        Some(group) => {
+            groups.insert(key, group)?;
+        }
+        None => {
+            groups.remove(&key);
+        }
     }
+    Ok(())
 }
 
 // The rules of a group; none where there is no rule for it.

@@ -1,19 +1,21 @@
 //! The productions of a system, in the order in which they are tried.
 ghost use Rattle.std.specs.Prelude.{◌≡◌, [], IfOk, OnOk, map};
+ghost use Rattle.indexmap.specs.IndexMap.{values};
 ghost use Rattle.lsys_spec.specs.Systems.{is_table, tables};
 ghost use Rattle.lsys_spec.specs.Edits.{put, without_rule};
 ghost use Rattle.lsys_bodies.specs.Views.{as_production};
-ghost use Rattle.lsys_rules.specs.Groups.{found_rules};
+ghost use Rattle.lsys_rules.specs.Groups.{AreGroups, found_rules};
 ghost use Rattle.lsys_rules.specs.InsideRules.{HaveOwnLabels, productions_in};
 ghost use Rattle.lsys_rules.specs.RuleRefusals.{with_table_once};
 ghost use Rattle.lsys_rules.specs.LevelGroups.{table_rules};
 
-use crate::groups::{GroupKey, Groups, groups_of, rules_at};
+use crate::groups::{GroupKey, Groups, groups_with, groups_without, rules_at};
 use crate::shared_group::SharedGroup;
 use indexmap::IndexMap;
 use lsys_bodies::Rule;
 use lsys_text::{Name, Word};
 use std::alloc::{AllocError, Global};
+use std::collections::HashMap;
 use std::marker::Model;
 use std::rc::Rc;
 
@@ -58,15 +60,19 @@ impl RuleTable {
     pub fn new(alloc: Global) -> Result<RuleTable, AllocError>
         ensures { IfOk result (λ t. t ≡ []) }
     {
-        RuleTable::of(alloc, IndexMap::new(alloc))
+        RuleTable::of(alloc, IndexMap::new(alloc), HashMap::new(alloc))
     }
 
-    // These rules, each of which stands under its own label.
-    fn of(alloc: Global, by_label: IndexMap<Word, Rule>) -> Result<RuleTable, AllocError>
-        requires { HaveOwnLabels (λ r. r.label) by_label.entries }
+    // These rules, each of which stands under its own label, in these groups.
+    fn of(
+        alloc: Global,
+        by_label: IndexMap<Word, Rule>,
+        groups: Groups,
+    ) -> Result<RuleTable, AllocError>
+        requires labels { HaveOwnLabels (λ r. r.label) by_label.entries }
+        requires groups { AreGroups groups (values by_label) }
         ensures { IfOk result (λ t. t ≡ productions_in by_label) }
     {
-        let groups = groups_of(alloc, by_label.values().as_slice())?;
         let tables = tables_of(alloc, by_label.values().as_slice())?;
         let rules = Rules {
             by_label,
@@ -78,7 +84,8 @@ impl RuleTable {
         })
     }
 
-    /// The rules with one more: a label that stands keeps its place, and a new one goes last.
+    /// The rules with one more: a label that stands keeps its place, and a new one goes last. Of the groups only those of
+    /// this rule and of the one whose place it takes are built anew, with a look at each rule; the others stay shared.
     ///
     /// # Errors
     ///
@@ -87,11 +94,14 @@ impl RuleTable {
         ensures { IfOk result (λ t. t ≡ put (as_production rule) self.now) }
     {
         let mut by_label = copy_of(&self.rules)?;
-        by_label.insert(rule.label, rule)?;
-        RuleTable::of(alloc, by_label)
+        let gone = by_label.insert(rule.label, rule.clone()?)?;
+        let rules = by_label.values().as_slice();
+        let groups = groups_with(alloc, &self.rules.groups, rules, &rule, &gone)?;
+        RuleTable::of(alloc, by_label, groups)
     }
 
-    /// The rules without the one under a label.
+    /// The rules without the one under a label. Of the groups only that of the rule is built anew, with a look at each
+    /// rule; the others stay shared.
     ///
     /// # Errors
     ///
@@ -100,8 +110,10 @@ impl RuleTable {
         ensures { IfOk result (λ t. t ≡ without_rule label self.now) }
     {
         let mut by_label = copy_of(&self.rules)?;
-        by_label.shift_remove(&label);
-        RuleTable::of(alloc, by_label)
+        let gone = by_label.shift_remove(&label);
+        let rules = by_label.values().as_slice();
+        let groups = groups_without(alloc, &self.rules.groups, rules, &gone)?;
+        RuleTable::of(alloc, by_label, groups)
     }
 
     /// The rules, in the order in which they are tried.

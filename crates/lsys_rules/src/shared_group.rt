@@ -1,13 +1,15 @@
 //! The rules of a group, which copies of a system share.
-ghost use Rattle.std.specs.Prelude.{◌≡◌, ◌<◌, ◌++◌, ◌∷◌, [], IfOk, length};
+ghost use Rattle.std.specs.Prelude.{◌≡◌, ◌<◌, IfOk, length};
+ghost use Rattle.lsys_rules.specs.Groups.{rules_or_none};
 
 use lsys_bodies::Rule;
 use std::alloc::{AllocError, Global};
 use std::marker::Model;
 use std::rc::Rc;
 
-/// The rules of a group, one at least, in the order in which they are tried. Copies of a system share them, and so does
-/// who keeps them: a copy takes no memory. Contracts see them as the rules alone.
+/// The rules of a group, one at least, in the order in which they are tried. Copies of a system share them, and so do
+/// the systems before and after an edit that leaves the group as it is, and who keeps them: a copy takes no memory.
+/// Contracts see them as the rules alone.
 #[derive(Drop)]
 pub struct SharedGroup {
     rules: Rc<Vec<Rule>>,
@@ -29,29 +31,16 @@ impl Model for SharedGroup {
 }
 
 impl SharedGroup {
-    // That of one rule.
-    pub(crate) fn of(alloc: Global, rule: Rule) -> Result<SharedGroup, AllocError>
-        ensures { IfOk result (λ g. g ≡ rule ∷ []) }
+    // That of these rules; none where there is no rule.
+    pub(crate) fn of(alloc: Global, rules: Vec<Rule>) -> Result<Option<SharedGroup>, AllocError>
+        ensures { IfOk result (λ group. rules_or_none group ≡ rules.items) }
     {
-        let mut rules = Vec::new(alloc);
-        rules.push(rule)?;
-        Ok(SharedGroup {
+        if rules.is_empty() {
+            return Ok(None);
+        }
+        Ok(Some(SharedGroup {
             rules: Rc::new(alloc, rules)?,
-        })
-    }
-
-    // With one rule more, which is tried last.
-    pub(crate) fn with(self, alloc: Global, rule: Rule) -> Result<SharedGroup, AllocError>
-        ensures { IfOk result (λ g. g ≡ self ++ rule ∷ []) }
-    {
-        let mut rules = match Rc::try_unwrap(self.rules) {
-            Ok(rules) => rules,
-            Err(shared) => copy_of(alloc, &shared)?,
-        };
-        rules.push(rule)?;
-        Ok(SharedGroup {
-            rules: Rc::new(alloc, rules)?,
-        })
+        }))
     }
 
     /// The rules, one at least.
@@ -71,11 +60,4 @@ impl Clone for SharedGroup {
             rules: self.rules.clone()?,
         })
     }
-}
-
-// A copy of these rules.
-fn copy_of(alloc: Global, rules: &[Rule]) -> Result<Vec<Rule>, AllocError>
-    ensures { IfOk result (λ copy. copy.items ≡ rules.now) }
-{
-    Vec::from_clones(alloc, rules)
 }
