@@ -4,3 +4,4 @@ pub mod PlacedLemmas
 pub mod FoundLemmas
 pub mod Placing
 pub mod AllLemmas
+pub mod Bearing

@@ -3,7 +3,7 @@ use Rattle.std.proofs.Common.{◌≡◌, ◌≢◌, ◌+◌, ◌≤◌, ◌||◌
 use Rattle.std.specs.Prelude.{cond, is_some, nat_eq, IsSome}
 use Rattle.std.proofs.Math.Bool.{or-true}
 use Rattle.std.proofs.lemmas.Bool.{cases_eq, eq-eqb, ne_eqb}
-use Rattle.std.proofs.lemmas.Option.{none-some}
+use Rattle.std.proofs.lemmas.Option.{none-some, same_Some}
 use Rattle.lsys_spec.specs.Rows.{In}
 use Rattle.lsys_brood.specs.declared.number.Number.{Number}
 use Rattle.lsys_forest.specs.Nodes.{Node, Nodes}
@@ -70,6 +70,11 @@ pub apart_before : (xs : List Number) (i : ℕ) (y : Number) → AreDifferent xs
 apart_before [] i y a h = absurd (none-some y h)
 apart_before (x ∷ xs) zero y a h = refl
 apart_before (x ∷ xs) (suc i) y a h = ap (λ b. b || has_number (take i xs) y) (same_sym x y ∙ has_there xs i x y h a.0) ∙ apart_before xs i y a.1 h
+
+pub has_same : (xs : List Number) (i : ℕ) (x q : Number) → slice_get xs i ≡ Some x → same_child_number x q ≡ true → has_number xs q ≡ true
+has_same [] i x q h e = absurd (none-some x h)
+has_same (y ∷ xs) zero x q h e = ap (λ b. b || has_number xs q) (ap (λ (n : Number). same_child_number n q) (same_Some y x h) ∙ e)
+has_same (y ∷ xs) (suc i) x q h e = ap (λ b. same_child_number y q || b) (has_same xs i x q h e) ∙ or-true (same_child_number y q)
 
 pub has_push : (xs : List Number) (x q : Number) → has_number (xs ++ x ∷ []) q ≡ (has_number xs q || same_child_number x q)
 has_push [] x q = or_none (same_child_number x q)

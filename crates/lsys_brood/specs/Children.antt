@@ -23,6 +23,14 @@ wanted_number w = w.number
 abbrev pub numbers_of : List Child → List Number
 numbers_of ws = map wanted_number ws
 
+-- of each of these children, the one of these nodes that has its number
+abbrev pub found_each : {A : Type 0} → Nodes A → List ℕ → List Child → List (Option ℕ)
+found_each m kids ws = map (node_numbered m kids) (numbers_of ws)
+
+-- those of these nodes whose number is that of none of these children
+abbrev pub unwanted_of : {A : Type 0} → Nodes A → List ℕ → List Child → List ℕ
+unwanted_of m kids ws = nodes_without m (numbers_of ws) kids
+
 -- no child is a cut
 abbrev pub AreWhole : List Child → Type 0
 AreWhole [] = Unit {0}
@@ -149,7 +157,7 @@ module _ {A : Type 0} where
   -- node where there was none. All other nodes stay.
   pub record AreRenewed (old new : Nodes A) (parent : ℕ) (p : Node A) (ws : List Child) (ks : List ℕ) : Type 0 where
     pub list : new parent ≡ Some (with_kids ks p)
-    pub made : AreFoundOrBorn old new parent (p.depth + 1) ws (map (node_numbered old p.kids) (numbers_of ws)) ks
+    pub made : AreFoundOrBorn old new parent (p.depth + 1) ws (found_each old p.kids ws) ks
     pub named : map (number_of new) ks ≡ numbers_of ws
     pub others : (j : ℕ) → j ≢ parent → (In j ks → ⊥) → new j ≡ old j
 
@@ -180,12 +188,12 @@ module _ {A : Type 0} where
     pub touched : TellsIf (λ k. KeepsChildren old new k → ⊥) (KeepsChildren old new) parent before.touched after.touched
     pub changed : TellsAll (HasTurned old new) (KeepsSymbol old new) ks before.changed after.changed
     pub added : TellsAll (IsNewNode old) (λ k. IsSome (old k)) ks before.added after.added
-    pub gone : after.gone ≡ before.gone ++ nodes_without old (numbers_of ws) p.kids
+    pub gone : after.gone ≡ before.gone ++ unwanted_of old p.kids ws
     pub room : before.room ≤ after.room + (length ws + length p.kids + 1)
 
   -- what the step for a parent takes, which had these children
   abbrev pub need_at : Nodes A → List ℕ → List Child → Need
-  need_at m kids ws = need_of ws (length kids) (map (node_numbered m kids) (numbers_of ws))
+  need_at m kids ws = need_of ws (length kids) (found_each m kids ws)
 
   -- no more than this was taken
   abbrev pub SpendsNeed : Grove A → Grove A → Need → Type 0

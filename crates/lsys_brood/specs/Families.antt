@@ -24,6 +24,10 @@ module _ {A : Type 0} where
   AreMatchedKids f parent ws found gone =
       (n : Node A) → now_of f parent ≡ Some n → IsMatched (now_of f) n.kids ws found gone
 
+  -- a node has no children
+  abbrev pub HasNoKids : Grove A → ℕ → Type 0
+  HasNoKids f k = (n : Node A) → now_of f k ≡ Some n → n.kids ≡ []
+
   -- the step for a parent takes so much
   abbrev pub IsNeedFor : Grove A → ℕ → List Child → Need → Type 0
   IsNeedFor f parent ws need =

@@ -1,5 +1,5 @@
 -- Nodes that are found by their numbers.
-use Rattle.std.specs.Prelude.{◌≡◌, ℕ, Bool, List, [], ◌∷◌, Option, None, cond, is_some, map}
+use Rattle.std.specs.Prelude.{◌≡◌, ℕ, Bool, List, [], ◌∷◌, Option, None, cond, is_some, map, not}
 use Rattle.std.specs.HashMap.{HashMap, get}
 use Rattle.lsys_forest.specs.Groves.{Grove, now_of}
 use Rattle.lsys_brood.specs.declared.child.Child.{Child}
@@ -39,3 +39,7 @@ module _ {S : Type 0} where
   abbrev pub HoldsKids : {A : Type 0} → HashMap Number ℕ S → Grove A → List ℕ → Type 0
   HoldsKids nodes f kids =
       (q : Number) → get same_child_number nodes q ≡ node_numbered (now_of f) kids q
+
+-- this node, where no child that is wanted has its number
+abbrev pub node_if_unwanted : List Child → Number → ℕ → List ℕ
+node_if_unwanted wanted number node = cond (not (has_number (numbers_of wanted) number)) (node ∷ []) []

@@ -1,5 +1,5 @@
 -- The steps by which the children of one parent are renewed.
-use Rattle.std.specs.Prelude.{◌≡◌, ◌≢◌, ◌⊎◌, ◌+◌, ◌≤◌, ℕ, Bool, true, false, List, [], ◌∷◌, length, map, Option, Some, IsSome}
+use Rattle.std.specs.Prelude.{◌≡◌, ◌≢◌, ◌⊎◌, ◌+◌, ◌≤◌, ℕ, Bool, true, false, List, [], ◌∷◌, length, map, Option, Some, None, IsSome}
 use Rattle.lsys_spec.specs.Rows.{In, AreApart}
 use Rattle.lsys_module.specs.declared.symbol.Symbol.TheVariants.{Cut}
 use Rattle.lsys_level.specs.Places.{params_in}
@@ -7,8 +7,7 @@ use Rattle.lsys_region.specs.Rooms.{list_room}
 use Rattle.lsys_forest.specs.Nodes.{Node, Nodes}
 use Rattle.lsys_forest.specs.Groves.{Grove, now_of, rest_of, IsLive, spare_params, Spends}
 use Rattle.lsys_brood.specs.declared.child.Child.{Child}
-use Rattle.lsys_brood.specs.Matches.{node_numbered, nodes_without}
-use Rattle.lsys_brood.specs.Children.{numbers_of, AreFoundOrBorn, AreWhole, ToldNodes, TellsAll, IsNewNode, HasTurned, KeepsSymbol, KeepsKind, births, notes_for, params_for}
+use Rattle.lsys_brood.specs.Children.{found_each, unwanted_of, AreFoundOrBorn, AreWhole, ToldNodes, TellsAll, IsNewNode, HasTurned, KeepsSymbol, KeepsKind, births, notes_for, params_for}
 
 -- one of these was found
 abbrev pub WasFound : ℕ → List (Option ℕ) → Type 0
@@ -19,6 +18,11 @@ WasFound j (o ∷ os) = (o ≡ Some j) ⊎ WasFound j os
 abbrev pub FoundOnce : List (Option ℕ) → Type 0
 FoundOnce [] = Unit {0}
 FoundOnce (o ∷ os) = ((j : ℕ) → o ≡ Some j → WasFound j os → ⊥) × FoundOnce os
+
+-- none was found of as many
+abbrev pub none_found : List Child → List (Option ℕ)
+none_found [] = []
+none_found (w ∷ ws) = None ∷ none_found ws
 
 -- an old node that may be renewed: it lives, and is neither the parent nor the root
 pub record IsOldChild {A : Type 0} (f : Grove A) (parent k : ℕ) : Type 0 where
@@ -54,8 +58,8 @@ module _ {A : Type 0} where
 
   -- these are matched with the children of the parent
   pub record IsMatched (m : Nodes A) (kids : List ℕ) (ws : List Child) (os : List (Option ℕ)) (gone : List ℕ) : Type 0 where
-    pub found : os ≡ map (node_numbered m kids) (numbers_of ws)
-    pub left : gone ≡ nodes_without m (numbers_of ws) kids
+    pub found : os ≡ found_each m kids ws
+    pub left : gone ≡ unwanted_of m kids ws
 
   -- there is room for one child
   pub record CanPlace (f : Grove A) (parent : ℕ) (w : Child) (o : Option ℕ) (t : ToldNodes) : Type 0 where
@@ -94,3 +98,7 @@ module _ {A : Type 0} where
     pub long : length ks ≡ length ws
     pub changes : ChangesAmong old new ks
     pub spends : Spends old new (births os) (params_for ws) 0 (notes_for os)
+
+  -- the children of a node that had none
+  abbrev pub AreBorn : Grove A → Grove A → ℕ → List Child → List ℕ → Type 0
+  AreBorn old new parent ws ks = HavePlaces old new parent ws (none_found ws) ks

@@ -1,5 +1,5 @@
 //! The children of a node, as they are wanted.
-ghost use Rattle.std.specs.Prelude.{◌≡◌, ◌≢◌, ◌++◌, ◌+◌, ◌≤◌, ℕ, [], OnOk, OnErr, IfOk, IsTrue, map, length, Some, None, is_some};
+ghost use Rattle.std.specs.Prelude.{◌≡◌, ◌≢◌, ◌++◌, ◌+◌, ◌≤◌, ℕ, [], OnOk, OnErr, IfOk, IsTrue, map, length, Some, None, is_some, vec_capacity};
 ghost use Rattle.std.specs.HashMap.{get};
 ghost use Rattle.lsys_spec.specs.Rows.{In};
 ghost use Rattle.lsys_forest.specs.Groves.{now_of, rest_of, changes_in, kept_in, IsLive, IsRooted};
@@ -11,13 +11,17 @@ ghost use Rattle.lsys_brood.specs.Numbered.{HoldsKids, SetsNumber, TakesOut, kid
 
 use crate::changes::Changes;
 use crate::child::Child;
+use crate::few::{find_each, leave_each};
 use crate::need::{Need, need_of};
 use crate::number::Number;
-use crate::renew::renew_all;
+use crate::renew::{bear_all, renew_all};
 use lsys_forest::{Forest, Kept, NodeId};
 use std::alloc::{AllocError, Global};
 use std::collections::HashMap;
 use std::marker::Model;
+
+/// So many children, and so many old ones, are matched without a map.
+const FEW: usize = 8;
 
 /// The children that are wanted of a node, matched with the old ones. It keeps its room from one node to the next.
 #[derive(Drop)]
@@ -69,6 +73,10 @@ impl Brood {
         let kids = forest.children(parent);
         if have_numbers(forest, kids, wanted) {
             return find_same(kids, &mut self.found, &mut self.gone);
+        }
+        if kids.len() <= FEW && wanted.len() <= FEW {
+            find_each(forest, kids, wanted, &mut self.found)?;
+            return leave_each(forest, kids, wanted, &mut self.gone);
         }
         enter_all(&mut self.by_number, forest, kids)?;
         take_all(&mut self.by_number, wanted, &mut self.found)?;
@@ -130,9 +138,13 @@ impl Brood {
         ensures spends { OnOk result (SpendsNeedOf forest.old forest.new parent wanted.now) }
         ensures refused { OnErr result ((forest.new ≡ forest.old) × (changes.new ≡ changes.old)) }
     {
+        if forest.children(parent).is_empty() {
+            empty_for(&mut self.nodes, wanted.len())?;
+            bear_all(forest, parent, wanted, &mut self.nodes, changes);
+            return Ok(());
+        }
         self.find(forest, parent, wanted)?;
-        self.nodes.clear();
-        self.nodes.reserve(wanted.len())?;
+        empty_for(&mut self.nodes, wanted.len())?;
         renew_all(
             forest,
             parent,
@@ -160,8 +172,17 @@ impl Brood {
     }
 }
 
+/// Empties a list, and makes room in it for so many nodes.
+fn empty_for(nodes: &mut Vec<NodeId>, count: usize) -> Result<(), AllocError>
+    ensures empty { OnOk result (nodes.new.items ≡ []) }
+    ensures places { OnOk result (count ≤ vec_capacity nodes.new) }
+{
+    nodes.clear();
+    nodes.reserve(count)
+}
+
 /// The number of a node that is not the root.
-fn number<A: Kept>(forest: &Forest<A>, node: NodeId) -> Number
+pub(crate) fn number<A: Kept>(forest: &Forest<A>, node: NodeId) -> Number
     requires lives { IsLive forest.now node }
     requires other { node ≢ forest.now.root }
     ensures { result ≡ number_of (now_of forest.now) node }

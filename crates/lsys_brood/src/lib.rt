@@ -4,6 +4,7 @@
 mod brood;
 mod changes;
 mod child;
+mod few;
 mod need;
 mod number;
 mod renew;

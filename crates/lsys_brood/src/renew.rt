@@ -7,8 +7,8 @@ ghost use Rattle.lsys_forest.specs.Nodes.{with_seen, with_key, with_kids};
 ghost use Rattle.lsys_forest.specs.Groves.{now_of, rest_of, changes_in, IsLive, IsRooted, spare_params, spare_kids, kept_in, AreKids, Spends};
 ghost use Rattle.lsys_brood.specs.Matches.{AreDifferent};
 ghost use Rattle.lsys_brood.specs.Children.{numbers_of, AreWhole};
-ghost use Rattle.lsys_brood.specs.Steps.{IsPlaced, HavePlaces, CanPlace, CanPlaceAll, KindsTell};
-ghost use Rattle.lsys_brood.specs.Families.{AreMatchedKids, FlagFallsByKind, HasRoomToRenew, RenewsKids, SetsBy, SpendsNeedOf, TellsEach, TellsKids, TellsKind, TellsNode, TellsOtherKids};
+ghost use Rattle.lsys_brood.specs.Steps.{IsPlaced, HavePlaces, AreBorn, CanPlace, CanPlaceAll, KindsTell, none_found};
+ghost use Rattle.lsys_brood.specs.Families.{AreMatchedKids, HasNoKids, FlagFallsByKind, HasRoomToRenew, RenewsKids, SetsBy, SpendsNeedOf, TellsEach, TellsKids, TellsKind, TellsNode, TellsOtherKids};
 
 use crate::changes::{Changes, push};
 use crate::child::Child;
@@ -233,4 +233,54 @@ fn tell_family(changes: &mut Changes, node: NodeId, had_others: bool, keep_kinds
     if had_others || !keep_kinds {
         changes.tell_touched(node);
     }
+}
+
+/// A new node for each of these children, in order.
+fn bear_each<A: Kept>(
+    forest: &mut Forest<A>,
+    parent: NodeId,
+    wanted: &[Child],
+    nodes: &mut Vec<NodeId>,
+    changes: &mut Changes,
+)
+    requires room { CanPlaceAll forest.old parent wanted.now (none_found wanted.now) changes.old }
+    requires empty { nodes.old.items ≡ [] }
+    requires places { length wanted.now ≤ vec_capacity nodes.old }
+    ensures placed { AreBorn forest.old forest.new parent wanted.now nodes.new.items }
+    ensures told { TellsEach forest.old forest.new nodes.new.items changes.old changes.new }
+    ensures kinds { KindsTell (now_of forest.old) (now_of forest.new) nodes.new.items true }
+    ensures kept { kept_in forest.new ≡ kept_in forest.old }
+{
+    for child in wanted {
+        let node = bear(forest, parent, child, changes);
+        push(nodes, node);
+    }
+}
+
+/// Makes the children that are wanted of a node that has none, and tells what differs: nothing is matched.
+pub(crate) fn bear_all<A: Kept>(
+    forest: &mut Forest<A>,
+    parent: NodeId,
+    wanted: &[Child],
+    nodes: &mut Vec<NodeId>,
+    changes: &mut Changes,
+)
+    requires sound { IsRooted forest.old.root (changes_in forest.old) (now_of forest.old) }
+    requires lives { IsLive forest.old parent }
+    requires bare { HasNoKids forest.old parent }
+    requires apart { AreDifferent (numbers_of wanted.now) }
+    requires whole { AreWhole wanted.now }
+    requires room { HasRoomToRenew forest.old parent wanted.now changes.old }
+    requires empty { nodes.old.items ≡ [] }
+    requires places { length wanted.now ≤ vec_capacity nodes.old }
+    ensures children { RenewsKids forest.old forest.new parent wanted.now }
+    ensures told { TellsKids forest.old forest.new parent wanted.now changes.old changes.new }
+    ensures rest { rest_of forest.new ≡ rest_of forest.old }
+    ensures root { forest.new.root ≡ forest.old.root }
+    ensures kept { kept_in forest.new ≡ kept_in forest.old }
+    ensures spends { SpendsNeedOf forest.old forest.new parent wanted.now }
+{
+    bear_each(forest, parent, wanted, nodes, changes);
+    let had_others = set_list(forest, parent, nodes);
+    tell_family(changes, parent, had_others, true);
 }

@@ -20,3 +20,4 @@ pub mod Families
 pub mod Lengths
 pub mod Finishing
 pub mod Depths
+pub mod AllNew

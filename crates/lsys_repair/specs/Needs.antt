@@ -1,11 +1,12 @@
 -- What the steps for some parents take together, by what is wanted of them.
-use Rattle.std.specs.Prelude.{ℕ, ℤ, ◌+◌, ◌*◌, ◌^◌, ◌≤◌, ◌/◌, ◌%◌, List, [], ◌∷◌, length, map, sum_by}
+use Rattle.std.specs.Prelude.{ℕ, ℤ, ◌+◌, ◌*◌, ◌^◌, ◌≤◌, ◌/◌, ◌%◌, List, [], ◌∷◌, length, map, sum_by, Option, None, cond}
 use Rattle.lsys_syntax.specs.Commands.{Numbering}
 use Rattle.lsys_syntax.specs.Strings as S
 use Rattle.lsys_spec.specs.Draws.{number_base}
 use Rattle.lsys_spec.specs.Levels as L
 use Rattle.lsys_spec.specs.Cuts.{cut}
 use Rattle.lsys_spec.specs.Meaning.{children}
+use Rattle.lsys_rewrite.specs.Cutting.{symbol_stays, cutting_behind}
 use Rattle.lsys_region.specs.Rooms.{room_of, list_room}
 use Rattle.lsys_forest.specs.Nodes.{Nodes}
 use Rattle.lsys_forest.specs.Rows.{kids_in}
@@ -94,6 +95,32 @@ had_by_all m ps = sum_by (had_by m) ps
 
 abbrev pub count_of_all : Numbering → Nodes Kept → List Parent → Count
 count_of_all g m ps = record { need = needs g m ps; wanted = wanted_of_all g m ps; had = had_by_all m ps }
+
+-- Of the symbols of a successor, where so much is being cut off: how many the cuts leave, and the room that the parameters of
+-- those take.
+abbrev pub staying_count : Option ℕ → List (S.Symbol ℤ) → ℕ
+staying_count o [] = 0
+staying_count o (z ∷ zs) = cond (symbol_stays o z) 1 0 + staying_count (cutting_behind o z) zs
+
+abbrev pub plain_room : S.Symbol ℤ → ℕ
+plain_room (S.Module v ps) = list_room ps
+plain_room z = 0
+
+abbrev pub staying_room : Option ℕ → List (S.Symbol ℤ) → ℕ
+staying_room o [] = 0
+staying_room o (z ∷ zs) = cond (symbol_stays o z) (plain_room z) 0 + staying_room (cutting_behind o z) zs
+
+-- what the step takes for so many new children, whose parameters take so much room, of a parent that has none; and for those
+-- that a successor wants, by whatever numbering
+abbrev pub count_of_new : ℕ → ℕ → Count
+count_of_new n room = record {
+  need = record { nodes = n; params = room; kids = room_of n; notes = n + 1; told = n + 1 };
+  wanted = n;
+  had = 0;
+}
+
+abbrev pub count_anew : List (S.Symbol ℤ) → Count
+count_anew zs = count_of_new (staying_count None zs) (staying_room None zs)
 
 -- so it is with the root, of which the axiom wants its own
 abbrev pub count_below : {A : Type 0} → Numbering → Nodes A → ℕ → List (S.Symbol ℤ) → Count

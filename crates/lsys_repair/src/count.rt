@@ -8,6 +8,7 @@ ghost use Rattle.lsys_repair.specs.Parents.{nodes_in, HasParents};
 ghost use Rattle.lsys_repair.specs.Needs.{IsBoundedCount, with_count, had_by_all};
 ghost use Rattle.lsys_repair.specs.Counts.{CountsAll, IsSmallFor, CountsOne, AreAddable};
 
+use crate::anew::count_anew;
 use crate::parent::{Parent, fill_for};
 use lsys_brood::{Brood, Need};
 use lsys_forest::Forest;
@@ -66,6 +67,9 @@ fn count_one<L: Ledger>(
     ensures few { IfOk result (λ count. IsBoundedCount 1 count.had count) }
 {
     let node = parent.node;
+    if forest.children(node).is_empty() {
+        return Ok(count_anew(forest, parent));
+    }
     fill_for(wanted, forest, numbering, parent)?;
     let children = wanted.children();
     let need = brood.count(forest, node, children)?;

@@ -3,6 +3,7 @@
 //! their level want are the definitions' next level.
 #![tactic(auto)]
 
+mod anew;
 mod count;
 pub mod deeper;
 pub mod finished;

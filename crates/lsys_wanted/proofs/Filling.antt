@@ -58,6 +58,14 @@ all_filled g key ss i numbers ws o h l = sym (append-nil ws) ∙ ap (λ rest. ws
 pub filled_wanted : (g : Numbering) (key : ℕ) (ss : List Symbol) (i : ℕ) (numbers : Numbers) (ws : List Child) (o : Option ℕ) → IsFilled g key ss i numbers ws o → length ss ≤ i → length ss ≤ number_base → AreWanted g key (string_of ss) ws
 filled_wanted g key ss i numbers ws o h l few = subst (AreWanted g key (string_of ss)) (sym (all_filled g key ss i numbers ws o h l)) (are_wanted g key ss few)
 
+-- the one child that a symbol alone is
+pub alone_wanted : (g : Numbering) (key : ℕ) (s : Symbol) (number : Number) (before ws : List Child) → before ≡ [] → ws ≡ before ++ child_if (symbol_stays None (symbol_of s)) (child_of key number s)
+    → number ≡ numbered_at g 0 [] (code_of (symbol_of s)) → AreWanted g key (symbol_of s ∷ []) ws
+alone_wanted g key s number before ws none is named =
+    let stays = symbol_stays None (symbol_of s) in
+    let from = is ∙ ap (λ (l : List Child). l ++ child_if stays (child_of key number s)) none ∙ ap (λ (n : Number). child_if stays (child_of key n s)) named ∙ sym (append-nil (child_if stays (child_of key (numbered_at g 0 [] (code_of (symbol_of s))) s))) in
+    subst (AreWanted g key (symbol_of s ∷ [])) (sym from) (are_wanted g key (s ∷ []) (omega arith))
+
 pub filled_open : (g : Numbering) (key : ℕ) (ss : List Symbol) (i : ℕ) (numbers : Numbers) (ws : List Child) (o : Option ℕ) → IsFilled g key ss i numbers ws o → length ss ≤ i → is_some o ≡ is_open (string_of ss)
 filled_open g key ss i numbers ws o h l = ap (λ (rest : List Symbol). is_some (cutting_past o rest)) (sym (drop_all i ss l)) ∙ ap (λ (o : Option ℕ). is_some o) h.past ∙ open_past ss
 

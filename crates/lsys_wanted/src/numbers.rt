@@ -2,7 +2,8 @@
 ghost use Rattle.std.specs.Prelude.{◌≡◌, ◌+◌, ◌<◌, [], IfOk, OnOk};
 ghost use Rattle.lsys_spec.specs.Numbers.{code_of};
 ghost use Rattle.lsys_module.specs.Views.{symbol_of};
-ghost use Rattle.lsys_wanted.specs.Counts.{IsBehind, AreFew, GoesBehind, IsNumberOf};
+ghost use Rattle.lsys_reading.specs.Commands.{numbering_of};
+ghost use Rattle.lsys_wanted.specs.Counts.{IsBehind, AreFew, GoesBehind, IsNumberOf, numbered_at};
 
 use lsys_brood::Number;
 use lsys_module::{Symbol, name_code};
@@ -37,7 +38,9 @@ impl Numbers {
     {
         self.numbering = numbering;
         self.symbols = 0;
-        self.counts.clear();
+        if !self.counts.is_empty() {
+            self.counts.clear();
+        }
     }
 
     /// The number of the next symbol, among those of one parent. Whether it is cut off does not matter.
@@ -61,5 +64,18 @@ impl Numbers {
                 Ok(Number { code, count })
             }
         }
+    }
+}
+
+/// The number of a symbol that stands first.
+pub(crate) fn first_number(numbering: Lineage, symbol: &Symbol) -> Number
+    ensures { result ≡ numbered_at (numbering_of numbering) 0 [] (code_of (symbol_of symbol.now)) }
+{
+    match numbering {
+        Lineage::Places => Number { code: 0, count: 0 },
+        Lineage::Names => Number {
+            code: name_code(symbol),
+            count: 0,
+        },
     }
 }

@@ -9,7 +9,7 @@ ghost use Rattle.lsys_rewrite.specs.Cutting.{symbol_stays};
 ghost use Rattle.lsys_wanted.specs.Wishes.{itself, IsWishFor};
 ghost use Rattle.lsys_wanted.specs.Counts.{PutsChildIfLeft};
 
-use crate::numbers::Numbers;
+use crate::numbers::{Numbers, first_number};
 use lsys_brood::{Child, Number};
 use lsys_draw::child_key;
 use lsys_level::Sight;
@@ -91,7 +91,11 @@ impl Wanted {
         ensures wanted { OnOk result (IsWishFor numbering key (symbol_of symbol.now ∷ []) self.new) }
         ensures cuts { OnOk result (self.new.is_open ≡ false) }
     {
-        self.fill(numbering, key, &[*symbol])
+        let number = first_number(numbering, symbol);
+        self.children.clear();
+        put_child(&mut self.children, None, key, number, symbol)?;
+        self.is_open = false;
+        Ok(())
     }
 
     /// The children, in order.

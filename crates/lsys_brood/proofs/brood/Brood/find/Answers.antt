@@ -41,3 +41,9 @@ returns-then-have_numbers-clause-matched g c = on_ok_weaker c.find_same.result (
     same_matched (now_of c.args.forest.now) c.children-kids.result.now (numbers_of c.args.wanted.now) c.find_same.new.found.items c.find_same.new.gone.items c.requires.apart
     (c.have_numbers.ensures c.if-have_numbers.true) found c.find_same.ensures.gone
     ∙ ap (λ ks. match_of (now_of c.args.forest.now) ks (numbers_of c.args.wanted.now)) (c.children-kids.ensures.kids n is)) c.find_same.ensures.found
+
+pub find_each-requires : goal.find_each-requires
+find_each-requires g c = record { kids = kids_live c.args.forest.now c.args.parent c.children-kids.result.now c.children-kids.ensures.sound c.requires.lives c.children-kids.ensures.kids }
+
+pub leave_each-requires : goal.leave_each-requires
+leave_each-requires g c = record { kids = kids_live c.args.forest.now c.args.parent c.children-kids.result.now c.children-kids.ensures.sound c.requires.lives c.children-kids.ensures.kids }
