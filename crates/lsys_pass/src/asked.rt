@@ -1,5 +1,6 @@
 //! Who is asked on a level that was made.
-ghost use Rattle.std.specs.Prelude.{◌≡◌, ◌<◌, ◌≤◌, ◌^◌, ℕ, length, IfOk, OnOk};
+ghost use Rattle.std.specs.Prelude.{◌≡◌, ◌<◌, ◌≤◌, ◌^◌, ℕ, length, IsTrue, IfOk, OnOk};
+ghost use Rattle.lsys_candidates.specs.Others.{AreAllAlike};
 ghost use Rattle.lsys_spec.specs.Rows.{In};
 ghost use Rattle.lsys_forest.specs.Groves.{now_of};
 ghost use Rattle.lsys_forest.specs.Rows.{complete_levels, level_nodes};
@@ -72,8 +73,8 @@ impl<L: Ledger> Pass<L> {
     /// The nodes of a level that are modules with other rules than at the last rest; all of its nodes, where there were no
     /// questions on it then.
     ///
-    /// Where all rules of the level are the same it costs steps by the number of rules alone; else also by the nodes of the
-    /// level.
+    /// Where all rules of the level are the same it costs steps by the number of rules or of the level's nodes, whichever is less; else
+    /// also by the nodes of the level.
     ///
     /// # Errors
     ///
@@ -100,7 +101,8 @@ impl<L: Ledger> Pass<L> {
     {
         let system = target(&self.next, &self.system);
         let mut rules = LevelRules::new(alloc, &self.system, system, level)?;
-        unlike_on(alloc, &mut rules, &self.forest, level)
+        let is_short = self.sizes.symbols_made(level as usize) < system.rules().len();
+        unlike_on(alloc, &mut rules, &self.forest, level, is_short)
     }
 }
 
@@ -122,8 +124,8 @@ fn nodes_on<A: Kept>(
     Ok(nodes)
 }
 
-/// The nodes of a level that are modules with other rules. Where all rules of the level are the same it costs steps by the number of
-/// rules alone.
+/// The nodes of a level that are modules with other rules. Where the level is a short one it costs a look at each of its nodes, else
+/// steps by the number of rules alone, if all rules of the level are the same.
 ///
 /// # Errors
 ///
@@ -133,15 +135,32 @@ fn unlike_on<A: Kept>(
     rules: &mut LevelRules<'_>,
     forest: &Forest<A>,
     level: u32,
+    is_short: bool,
 ) -> Result<Vec<NodeId>, AllocError>
     requires level { level < length (complete_levels forest.now) }
     requires live { AllLive forest.now (level_nodes (now_of forest.now) forest.now.root level) }
     ensures { IfOk result (λ others. AreUnlike rules.old forest.now level others.items) }
 {
-    if rules.are_all_alike()? {
+    if are_known_alike(rules, is_short)? {
         return Ok(Vec::new(alloc));
     }
     others_on(alloc, rules, forest, level)
+}
+
+/// Whether it is known that no modules have other rules than they had: it isn't asked for a short level, where it costs more than to
+/// look at all nodes.
+///
+/// # Errors
+///
+/// Want of memory.
+fn are_known_alike(rules: &mut LevelRules<'_>, is_short: bool) -> Result<bool, AllocError>
+    ensures alike { IfOk result (λ all. IsTrue all → AreAllAlike rules.old) }
+    ensures same { rules.new ≡ rules.old }
+{
+    if is_short {
+        return Ok(false);
+    }
+    rules.are_all_alike()
 }
 
 /// The nodes of a level that are modules with other rules, by a look at all of its nodes.

@@ -184,7 +184,8 @@ fn take_next<L: Ledger>(
 /// Whether so many nodes of a level are looked at that it pays to link it. A level is walked along where it is asked and was not,
 /// or was asked and is not, or has other rules than at the last rest. And each of so many nodes of the level above, which have
 /// other children or other neighbours, may lead to climbs that take as many steps as there are levels, there and back. It costs
-/// steps by the number of levels, and of rules. The choice is free: whichever it is, the forest tells the same.
+/// steps by the number of levels, and of rules, which aren't compared for a level that is shorter: each of its nodes may climb then. The
+/// choice is free: whichever it is, the forest tells the same.
 ///
 /// # Errors
 ///
@@ -205,6 +206,9 @@ fn is_busy(
     }
     if !is_asked_now {
         return Ok(false);
+    }
+    if symbols < new.rules().len() {
+        return Ok(symbols.saturating_mul(level as usize) >= total_with(sizes, symbols));
     }
     Ok(!have_same_rules(alloc, old, new, level)?)
 }

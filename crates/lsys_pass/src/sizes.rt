@@ -45,10 +45,14 @@ impl Sizes {
     pub(crate) fn symbols_of(&self, level: usize) -> usize
         ensures { result ≡ symbols_at self.now.rest.items level }
     {
-        match self.rest.get(level) {
-            Some(size) => size.symbols,
-            None => 0,
-        }
+        symbols_at(&self.rest, level)
+    }
+
+    /// How many symbols a level has that was made; none, where it was not made.
+    pub(crate) fn symbols_made(&self, level: usize) -> usize
+        ensures { result ≡ symbols_at self.now.made.items level }
+    {
+        symbols_at(&self.made, level)
     }
 
     /// Whether a cut on a level reached what stands behind it at the last rest; where the level was not there, none did.
@@ -118,5 +122,15 @@ fn set_last(sizes: &mut [Size], is_open: bool)
     let levels = sizes.len();
     if levels > 0 {
         sizes[levels - 1].is_open = is_open;
+    }
+}
+
+/// How many symbols a level has by these sizes; none, where they don't tell it.
+fn symbols_at(sizes: &[Size], level: usize) -> usize
+    ensures { result ≡ symbols_at sizes.now level }
+{
+    match sizes.get(level) {
+        Some(size) => size.symbols,
+        None => 0,
     }
 }

@@ -7,4 +7,4 @@ use Rattle.lsys_pass.proofs.asked.unlike_on.Goals as goal
 
 pub returns : goal.returns
 returns g c =
-    IfOk-weaker c.others_on.result _ _ (λ others listed. subst (λ (r : RulesOf). AreUnlike r c.args.forest.now c.args.level others.items) c.are_all_alike.ensures.same (unlike_listed _ c.args.forest.now c.args.level others.items listed)) c.others_on.ensures
+    IfOk-weaker c.others_on.result _ _ (λ others listed. subst (λ (r : RulesOf). AreUnlike r c.args.forest.now c.args.level others.items) c.are_known_alike.ensures.same (unlike_listed _ c.args.forest.now c.args.level others.items listed)) c.others_on.ensures
