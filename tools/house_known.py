@@ -24,7 +24,6 @@ class Known:
         return self.bound, self.file, self.name
 
 
-SOON = "a fact of its own in specs/ will name it"
 LENT = "the allocator, what is written to and both counters are lent each as itself, so that clauses name each"
 WALK = "a walk's place, mark, trace, bound values and counter are lent each as itself, so that clauses name each"
 FOREST = "the forest, what is marked in it and the lists that are filled are lent each as itself, so that clauses name each"
@@ -37,9 +36,6 @@ SAME_WORD = "two files define it apart: it goes where one of them takes another 
 FEW_USES = "a fact that one clause names, or a step of one proof; the figure may fall and not rise"
 
 KNOWN: tuple[Known, ...] = (
-    Known("columns", "crates/lsys_forest/src/forest.rt", "sort", 114, SOON, may_go=True),
-    Known("columns", "crates/lsys_forest/src/pairs.rt", "paired", 117, SOON, may_go=True),
-    Known("columns", "crates/lsys_forest/src/stock.rt", "here", 102, SOON, may_go=True),
     Known("twice in specs", "crates", "BeginsCommand", 2, SAME_WORD),
     Known("twice in specs", "crates", "IsGrown", 2, SAME_WORD),
     Known("twice in specs", "crates", "IsPassed", 2, SAME_WORD),
@@ -98,14 +94,14 @@ KNOWN: tuple[Known, ...] = (
     Known("once", "crates/lsys_rules/specs", "lsys_rules", 33, FEW_USES),
     Known("once", "crates/lsys_rewrite/specs", "lsys_rewrite", 4, FEW_USES),
     Known("once", "crates/lsys_level/specs", "lsys_level", 11, FEW_USES),
-    Known("once", "crates/lsys_region/specs", "lsys_region", 3, FEW_USES),
+    Known("once", "crates/lsys_region/specs", "lsys_region", 4, FEW_USES),
     Known("once", "crates/lsys_walks/specs", "lsys_walks", 19, FEW_USES),
     Known("once", "crates/lsys_match/specs", "lsys_match", 39, FEW_USES),
     Known("once", "crates/lsys_reads/specs", "lsys_reads", 8, FEW_USES),
     Known("once", "crates/lsys_forest/specs", "lsys_forest", 46, FEW_USES),
     Known("once", "crates/lsys_kept/specs", "lsys_kept", 17, FEW_USES),
     Known("once", "crates/lsys_candidates/specs", "lsys_candidates", 18, FEW_USES),
-    Known("once", "crates/lsys_brood/specs", "lsys_brood", 16, FEW_USES),
+    Known("once", "crates/lsys_brood/specs", "lsys_brood", 19, FEW_USES),
     Known("once", "crates/lsys_wanted/specs", "lsys_wanted", 4, FEW_USES),
     Known("once", "crates/lsys_repair/specs", "lsys_repair", 71, FEW_USES),
     Known("once", "crates/lsys_front/specs", "lsys_front", 54, FEW_USES),

@@ -17,7 +17,7 @@ from readback import goes_around, goes_through, is_between
 from readers import runs_of_dxf, runs_of_obj, svg_paths
 from scripts import script, sum_of
 from soak import kind_of, replies_in, smaller
-from squares import nested
+from squares import branches, nested, rules
 
 SVG = ("<svg xmlns=\"http://www.w3.org/2000/svg\"><path d=\"M0,0 10,-5Z\" stroke-width=\"2\"/>"
        "<path d=\"M1,2 3,4\" style=\"stroke-width:1\" transform=\"matrix(2,0,0,2,10,20)\"/></svg>")
@@ -48,7 +48,12 @@ class Curves(unittest.TestCase):
             self.assertEqual({max(values) - min(values) for values in zip(*places)}, {side - 1})
 
     def test_symbols_of_a_nested_axiom(self) -> None:
-        self.assertEqual(nested(2)[1:], (b"axiom [[A]]", 45))
+        self.assertEqual(nested(2)[1:], ([b"axiom [[A]]"], 45))
+
+    def test_steps_past_branches_and_rules(self) -> None:
+        self.assertEqual(branches(3), ([b"axiom [A][A][A]", b"production a: B < A => A"], [b"depth 3"], 9))
+        self.assertEqual(rules(53).last[52], b"production r52: A(x,y) => A(x,y)")
+        self.assertEqual(rules(53).many, 53)
 
 
 class Files(unittest.TestCase):
