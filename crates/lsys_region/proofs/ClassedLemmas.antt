@@ -3,7 +3,7 @@ use Rattle.std.proofs.Common.{◌≡◌, ℕ, zero, suc, ◌+◌, ◌-◌, ◌^�
 use Rattle.std.proofs.lemmas.Nat.{pow_below}
 use Rattle.std.proofs.lemmas.Bool.{cases_order}
 use Rattle.std.proofs.lemmas.Option.{same_Some, none-some}
-use Rattle.lsys_region.specs.declared.table.Entry.{Entry}
+use Rattle.lsys_region.specs.declared.packed.Entry.{Entry}
 use Rattle.lsys_region.specs.declared.packed.State.{State}
 use Rattle.lsys_region.specs.Entries.{Classed, begin_of, exponent_of, classed}
 use Rattle.lsys_region.proofs.RoomLemmas.{IsFirstPower, exponent_from_first, below_pow}

@@ -224,32 +224,32 @@ module _ {T : Type 0} where
       (subst (λ (p : Pool T). IsPlaced old p (Some n) list) same
       (subst (λ k. IsPlaced old new (Some k) list) (sym added.next) whole)))
 
-pub IsSound-take : {parts parts' : List SizedPart} {size size' spare places places' numbers numbers' end end' n class len : ℕ} → IsSoundLayout parts size spare places numbers end → TakesPart parts parts' n class len → room_of len ≡ 2 ^ class → size' ≡ size → places ≤ places' → numbers ≤ numbers' → end' ≡ end → IsSoundLayout parts' size' spare places' numbers' end'
-IsSound-take {parts} {parts'} {size} {size'} {spare} {places} {places'} {numbers} {numbers'} {end} {end'} {n} {class} {len} sound taken roomy same wide many ended =
+pub IsSound-take : {parts parts' : List SizedPart} {size size' spare places places' numbers numbers' end end' most most' n class len : ℕ} → IsSoundLayout parts size spare places numbers end most → TakesPart parts parts' n class len → room_of len ≡ 2 ^ class → size' ≡ size → places ≤ places' → numbers ≤ numbers' → end' ≡ end → most' ≡ most → IsSoundLayout parts' size' spare places' numbers' end' most'
+IsSound-take {parts} {parts'} {size} {size'} {spare} {places} {places'} {numbers} {numbers'} {end} {end'} {most} {most'} {n} {class} {len} sound taken roomy same wide many ended told =
     let apart = AreApart-set parts size n taken.start class None (Some len) taken.was_free (λ l is. ap room_of (sym (same_Some len l is)) ∙ roomy) sound.lie in
     let lengths : length parts' ≡ length parts = ap length taken.changed ∙ length-set parts n _ in
     record {
       lie = subst (λ s. LieApart parts' s) (sym same) (subst (λ (ps : List SizedPart). LieApart ps size) (sym taken.changed) apart);
       places_left = omega (arith, sound.places_left);
       numbers_left = omega (arith, sound.numbers_left);
-      few = omega (arith, sound.few);
+      told = omega (arith, sound.told);
       ends = ended ∙ sound.ends ∙ sym same;
     }
 
-pub IsSound-free : {parts parts' : List SizedPart} {size spare places numbers numbers' end end' n : ℕ} → IsSoundLayout parts size spare places numbers end → FreesPart parts parts' n → numbers ≤ numbers' → end' ≡ end → IsSoundLayout parts' size spare places numbers' end'
-IsSound-free {parts} {parts'} {size} {spare} {places} {numbers} {numbers'} {end} {end'} {n} sound frees many ended =
+pub IsSound-free : {parts parts' : List SizedPart} {size spare places numbers numbers' end end' most most' n : ℕ} → IsSoundLayout parts size spare places numbers end most → FreesPart parts parts' n → numbers ≤ numbers' → end' ≡ end → most' ≡ most → IsSoundLayout parts' size spare places numbers' end' most'
+IsSound-free {parts} {parts'} {size} {spare} {places} {numbers} {numbers'} {end} {end'} {most} {most'} {n} sound frees many ended told =
     let apart = AreApart-set parts size n frees.start frees.class (Some frees.len) None frees.was_taken (λ l is. absurd (none-some l is)) sound.lie in
     let lengths : length parts' ≡ length parts = ap length frees.changed ∙ length-set parts n _ in
     record {
       lie = subst (λ (ps : List SizedPart). LieApart ps size) (sym frees.changed) apart;
       places_left = sound.places_left;
       numbers_left = omega (arith, sound.numbers_left);
-      few = sound.few;
+      told = omega (arith, sound.told);
       ends = ended ∙ sound.ends;
     }
 
-pub IsSound-push : {T : Type 0} {parts parts' : List SizedPart} {cells cells' list : List T} {spare end end' n class room : ℕ} {pool : Pool T} (places places' numbers numbers' : ℕ) → pool_of parts cells spare ≡ pool → IsSoundLayout parts (length cells) spare places numbers end → AddsPart parts parts' n end class (length list) → end' ≡ end + room → IsAppended cells cells' list room → room ≡ 2 ^ class → room ≡ list_room list → list_room list ≤ pool.spare → places ≤ places' → numbers ≤ numbers' → IsSoundLayout parts' (length cells') (spare - room) places' numbers' end'
-IsSound-push {T} {parts} {parts'} {cells} {cells'} {list} {spare} {end} {end'} {n} {class} {room} {pool} places places' numbers numbers' seen sound added ended appended power roomy enough wide many =
+pub IsSound-push : {T : Type 0} {parts parts' : List SizedPart} {cells cells' list : List T} {spare end end' most most' n class room : ℕ} {pool : Pool T} (places places' numbers numbers' : ℕ) → pool_of parts cells spare ≡ pool → IsSoundLayout parts (length cells) spare places numbers end most → AddsPart parts parts' n end class (length list) → end' ≡ end + room → IsAppended cells cells' list room → room ≡ 2 ^ class → room ≡ list_room list → list_room list ≤ pool.spare → places ≤ places' → numbers ≤ numbers' → most' ≡ most → IsSoundLayout parts' (length cells') (spare - room) places' numbers' end' most'
+IsSound-push {T} {parts} {parts'} {cells} {cells'} {list} {spare} {end} {end'} {most} {most'} {n} {class} {room} {pool} places places' numbers numbers' seen sound added ended appended power roomy enough wide many told =
     let part = part_at (length cells) class (Some (length list)) in
     let all : parts ++ part ∷ [] ≡ parts' = ap (λ at. parts ++ part_at at class (Some (length list)) ∷ []) (sym sound.ends) ∙ sym added.changed in
     let counted : length parts' ≡ length parts + 1 = ap length (sym all) ∙ length_push parts part in
@@ -259,7 +259,7 @@ IsSound-push {T} {parts} {parts'} {cells} {cells'} {list} {spare} {end} {end'} {
       lie = subst (λ s. LieApart parts' s) grown (subst (λ (ps : List SizedPart). LieApart ps (length cells + 2 ^ class)) all (AreApart-push parts (length cells) class (length list) (sym roomy ∙ power) sound.lie));
       places_left = omega (arith, sound.places_left);
       numbers_left = omega (arith, sound.numbers_left, pow_pos class);
-      few = omega (arith, sound.few);
+      told = omega (arith, sound.told);
       ends = omega (arith, sound.ends);
     }
 

@@ -1,18 +1,22 @@
 -- What the region sees of a change of the table.
-use Rattle.std.proofs.Common.{◌≡◌, ℕ, zero, suc, ◌+◌, ◌^◌, ◌<◌, ◌≤◌, List, [], ◌∷◌, ◌++◌, map, length, set, get_or, replicate, Option, Some, None, slice_get, refl, sym, ap, subst, ◌∙◌, arith, length-set}
+use Rattle.std.proofs.Common.{◌≡◌, ℕ, zero, suc, ◌+◌, ◌^◌, ◌<◌, ◌≤◌, List, [], ◌∷◌, ◌++◌, map, length, set, get_or, replicate, Option, Some, None, IfSome, slice_get, refl, sym, ap, subst, ◌∙◌, arith, length-set}
 use Rattle.std.specs.Option.{option_map}
 use Rattle.std.proofs.lemmas.List.{map-set, map_push, length-map, length-replicate, length_push, get_or_default}
 use Rattle.std.proofs.lemmas.Nat.{pow_pos}
+use Rattle.std.proofs.Math.Pow.{pow_mono}
 use Rattle.std.proofs.lemmas.Option.{same_Some, none-some, slice_get-map, slice_get_within, get_or_from_slice_get}
-use Rattle.lsys_region.specs.declared.table.Entry.{Entry}
+use Rattle.lsys_region.specs.declared.packed.Entry.{Entry}
 use Rattle.lsys_region.specs.declared.packed.State.{State}
 use Rattle.lsys_region.specs.declared.packed.State.TheVariants.{Taken, Free}
 use Rattle.lsys_region.specs.Parts.{SizedPart, IsTakenPart, IsPartSpan, AddsPart, TakesPart, FreesPart}
 use Rattle.lsys_region.specs.Entries.{Classed, classed, part_of, sized_parts, filled_of, IsFreeEntry, Chain, AreLinkedByClass, IsSoundTable}
-use Rattle.lsys_region.specs.Layout.{most_places, HaveRooms}
+use Rattle.lsys_region.specs.Layout.{HaveRooms, all_places}
 use Rattle.lsys_region.specs.Rooms.{room_of}
+use Rattle.lsys_region.specs.declared.rows.Rows.{Rows}
+use Rattle.lsys_region.specs.declared.rows.Rows.TheVariants.{Small, Large}
+use Rattle.lsys_region.specs.Rows.{most_of}
 use Rattle.lsys_region.proofs.ListLemmas.{from_option_map}
-use Rattle.lsys_region.proofs.RoomLemmas.{same_exponent}
+use Rattle.lsys_region.proofs.RoomLemmas.{same_exponent, room_fits}
 use Rattle.lsys_region.proofs.ChainLemmas.{AreLinked-take, AreLinked-release, AreLinked-push}
 use Rattle.lsys_region.proofs.ClassedLemmas.{length-classed, entry_of-classed, classed-set, classed-push}
 
@@ -34,8 +38,8 @@ AreLinked-nil heads empty = record {
 }
 
 -- a table with no parts
-pub IsSound-nil : (entries : List Entry) (heads : List (Option ℕ)) → entries ≡ [] → heads ≡ replicate 64 None → IsSoundTable entries heads 0
-IsSound-nil entries heads none empty = record {
+pub IsSound-nil : (entries : List Entry) (heads : List (Option ℕ)) (most : ℕ) → entries ≡ [] → heads ≡ replicate 64 None → IsSoundTable entries heads 0 most
+IsSound-nil entries heads most none empty = record {
   linked = subst (λ (es : List Entry). AreLinkedByClass (classed es 0) heads) (sym none) (AreLinked-nil heads empty);
   few = omega (arith, ap length none);
   below = omega arith;
@@ -47,7 +51,7 @@ head_free entries class i head (m ∷ numbers) at chain =
     let same : m ≡ i = same_Some m i (sym chain.1.at_head ∙ at) in
     (chain.0, (chain.1.free.0, ap (slice_get entries) (sym same) ∙ chain.1.free.1))
 
-module _ (entries : List Entry) (heads : List (Option ℕ)) (end class i : ℕ) (d : Option ℕ) (small : class < 64) (sound : IsSoundTable entries heads end) (is : get_or heads class d ≡ Some i) where
+module _ {most : ℕ} (entries : List Entry) (heads : List (Option ℕ)) (end class i : ℕ) (d : Option ℕ) (small : class < 64) (sound : IsSoundTable entries heads end most) (is : get_or heads class d ≡ Some i) where
   -- at whatever default it was read
   at : get_or heads class None ≡ Some i
   at = get_or_default heads class None d (omega (arith, small, sound.linked.many)) ∙ is
@@ -81,7 +85,7 @@ module _ (entries : List Entry) (heads : List (Option ℕ)) (end class i : ℕ) 
       ∙ ap (λ (s : State). Some (record { start = entry.start; class = class; state = s })) state
 
   -- the table after the part at the head was taken
-  pub IsSound-take : (entry : Entry) (next : Option ℕ) (len : ℕ) → entry ≡ get_or entries i entry → entry.state ≡ Free next → IsSoundTable (set entries i (record { start = entry.start; state = Taken len })) (set heads class next) end
+  pub IsSound-take : (entry : Entry) (next : Option ℕ) (len : ℕ) → entry ≡ get_or entries i entry → entry.state ≡ Free next → IsSoundTable (set entries i (record { start = entry.start; state = Taken len })) (set heads class next) end most
   IsSound-take entry next len read state =
       let here = head_entry entry next read state in
       let linked = (AreLinked-take (classed entries end) heads class i entry.start class len next small sound.linked at here).1 in
@@ -99,6 +103,14 @@ module _ (entries : List Entry) (heads : List (Option ℕ)) (end class i : ℕ) 
         was_free = slice_get-map part_of (classed entries end) i ∙ ap (option_map part_of) here;
         changed = ap (map part_of) (classed-set entries end i (record { start = entry.start; state = Taken len }) _ here refl) ∙ map-set part_of (classed entries end) i _;
       }
+
+told_or_none : {most : ℕ} (entries : List Entry) (heads : List (Option ℕ)) (end class : ℕ) (d o : Option ℕ) → class < 64 → IsSoundTable entries heads end most → get_or heads class d ≡ o → IfSome o (λ number. number < most)
+told_or_none entries heads end class d None small sound is = tt
+told_or_none entries heads end class d (Some i) small sound is = omega (arith, head_within entries heads end class i d small sound is, sound.few, sound.below)
+
+-- the entries can tell the number of the first free part of a class
+pub head_told : {most : ℕ} (entries : List Entry) (heads : List (Option ℕ)) (end class : ℕ) (d : Option ℕ) → class < 64 → IsSoundTable entries heads end most → IfSome (get_or heads class d) (λ number. number < most)
+head_told entries heads end class d small sound = told_or_none entries heads end class d (get_or heads class d) small sound refl
 
 taken_state : (state : State) (len : ℕ) → filled_of state ≡ Some len → state ≡ Taken len
 taken_state (Taken own) len same = ap Taken (same_Some own len same)
@@ -149,6 +161,27 @@ span_entry entries end n start len entry span read =
           ∙ ap (λ (e : Entry). Some (record { start = e.start; class = found.0.class; state = Taken len })) (sym same);
     }
 
+-- the entry of such a part
+pub span_found : (entries : List Entry) (end n start len : ℕ) → IsPartSpan (sized_parts entries end) n start len → (entry : Entry) × (entry ≡ get_or entries n entry)
+span_found entries end n start len span =
+    let found = from_option_map part_of (slice_get (classed entries end) n) _ (sym (slice_get-map part_of (classed entries end) n) ∙ span.here) in
+    let entry : Entry = record { start = found.0.start; state = found.0.state } in
+    (entry, sym (get_or_from_slice_get entries n entry entry (entry_of-classed entries end n found.0 found.1)))
+
+-- a list that has one of the classes is no longer than this
+pub part_length : {most : ℕ} (entries : List Entry) (heads : List (Option ℕ)) (end n start len : ℕ) → IsPartSpan (sized_parts entries end) n start len → HaveRooms (sized_parts entries end) → IsSoundTable entries heads end most → len ≤ 2 ^ 63
+part_length entries heads end n start len span rooms sound =
+    let found = from_option_map part_of (slice_get (classed entries end) n) _ (sym (slice_get-map part_of (classed entries end) n) ∙ span.here) in
+    let same : found.0.class ≡ span.class = ap (λ (p : SizedPart). p.class) found.2 in
+    let small : found.0.class < 64 = sound.linked.classes n found.0 found.1 in
+    let class : span.class ≤ 63 = omega arith in
+    omega (arith, room_fits len, rooms n _ len span.here refl, pow_mono {i = span.class} {j = 63} class)
+
+-- entries tell of no more places than there are
+pub most_bounded : (rows : Rows) → most_of rows ≤ all_places
+most_bounded (Small small) = omega arith
+most_bounded (Large large) = omega arith
+
 module _ (entries : List Entry) (end n : ℕ) (entry : Entry) (len : ℕ) (held : IsTakenEntry entries end n entry len) where
   part_here : slice_get (sized_parts entries end) n ≡ Some (record { start = entry.start; class = held.class; filled = Some len })
   part_here = slice_get-map part_of (classed entries end) n ∙ ap (option_map part_of) held.here
@@ -163,11 +196,11 @@ module _ (entries : List Entry) (end n : ℕ) (entry : Entry) (len : ℕ) (held 
       same_exponent class held.class (sym power ∙ is ∙ rooms n _ len part_here refl)
 
   -- the table after the part was freed
-  pub IsSound-release : (heads : List (Option ℕ)) (class : ℕ) (d : Option ℕ) → class ≡ held.class → IsSoundTable entries heads end → IsSoundTable (set entries n (record { start = entry.start; state = Free (get_or heads class d) })) (set heads class (Some n)) end
-  IsSound-release heads class d same sound =
+  pub IsSound-release : {most : ℕ} (heads : List (Option ℕ)) (class : ℕ) (d : Option ℕ) → class ≡ held.class → IsSoundTable entries heads end most → IsSoundTable (set entries n (record { start = entry.start; state = Free (get_or heads class d) })) (set heads class (Some n)) end most
+  IsSound-release {most} heads class d same sound =
       let freed : ℕ → Entry = λ k. record { start = entry.start; state = Free (get_or heads k d) } in
       let linked = AreLinked-release (classed entries end) heads n entry.start held.class len d sound.linked held.here in
-      subst (λ k. IsSoundTable (set entries n (freed k)) (set heads k (Some n)) end) (sym same) (record {
+      subst (λ k. IsSoundTable (set entries n (freed k)) (set heads k (Some n)) end most) (sym same) (record {
         linked = subst (λ es. AreLinkedByClass es (set heads held.class (Some n))) (sym (classed-set entries end n (freed held.class) _ held.here refl)) linked;
         few = omega (arith, sound.few, length-set entries n (freed held.class));
         below = sound.below;
@@ -192,8 +225,8 @@ module _ (entries : List Entry) (end class room len : ℕ) (power : room ≡ 2 ^
       ap (λ r. classed (entries ++ record { start = end; state = Taken len } ∷ []) (end + r)) power ∙ classed-push entries end class (Taken len)
 
   -- the table after a part was added
-  pub IsSound-add : (heads : List (Option ℕ)) → class < 64 → end + room ≤ most_places → IsSoundTable entries heads end → IsSoundTable (entries ++ record { start = end; state = Taken len } ∷ []) heads (end + room)
-  IsSound-add heads small fits sound = record {
+  pub IsSound-add : {most : ℕ} (heads : List (Option ℕ)) → class < 64 → end + room ≤ most → IsSoundTable entries heads end most → IsSoundTable (entries ++ record { start = end; state = Taken len } ∷ []) heads (end + room) most
+  IsSound-add {most} heads small fits sound = record {
     linked = subst (λ es. AreLinkedByClass es heads) (sym classed_added) (AreLinked-push (classed entries end) heads end class len small sound.linked);
     few = omega (arith, sound.few, pow_pos class, power, length_push entries (record { start = end; state = Taken len }));
     below = fits;

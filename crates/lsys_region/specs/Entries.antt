@@ -1,11 +1,10 @@
 -- What the entries of the table say of the parts, and how they link the free parts of each class.
 use Rattle.std.specs.Prelude.{◌≡◌, ◌<◌, ◌≤◌, ◌-◌, ℕ, List, [], ◌∷◌, map, length, Option, Some, None, slice_get, slice_index_or, ◌⊎◌}
-use Rattle.lsys_region.specs.declared.table.Entry.{Entry}
+use Rattle.lsys_region.specs.declared.packed.Entry.{Entry}
 use Rattle.lsys_region.specs.declared.packed.State.{State}
 use Rattle.lsys_region.specs.declared.packed.State.TheVariants.{Taken, Free}
 use Rattle.lsys_region.specs.Parts.{SizedPart}
 use Rattle.lsys_region.specs.Rooms.{exponent_from}
-use Rattle.lsys_region.specs.Layout.{most_places}
 
 -- an entry, with the size class of its part
 pub record Classed : Type 0 where
@@ -76,8 +75,8 @@ pub record AreLinkedByClass (entries : List Classed) (heads : List (Option ℕ))
   pub classes : (number : ℕ) (entry : Classed) → slice_get entries number ≡ Some entry → entry.class < 64
   pub linked : (class : ℕ) → class < 64 → IsLinked entries class (slice_index_or heads class None)
 
--- the free parts of each class are linked, and there are no more parts than places
-pub record IsSoundTable (entries : List Entry) (heads : List (Option ℕ)) (end : ℕ) : Type 0 where
+-- the free parts of each class are linked, and there are no more parts than places, of which so many can be told
+pub record IsSoundTable (entries : List Entry) (heads : List (Option ℕ)) (end most : ℕ) : Type 0 where
   pub linked : AreLinkedByClass (classed entries end) heads
   pub few : length entries ≤ end
-  pub below : end ≤ most_places
+  pub below : end ≤ most

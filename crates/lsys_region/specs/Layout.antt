@@ -34,14 +34,18 @@ pub record LieApart (parts : List SizedPart) (size : ℕ) : Type 0 where
   pub apart : (m n : ℕ) (first second : SizedPart) → m < n → slice_get parts m ≡ Some first → slice_get parts n ≡ Some second → first.start + 2 ^ first.class ≤ second.start
   pub roomy : HaveRooms parts
 
--- how many places a vector has at most, so that a number of a part and the length of a list take 31 bits
-abbrev pub most_places : ℕ
-most_places = 0x7FFF_FFFF
+-- of how many places small entries tell: a number of a part and the length of a list take 31 bits
+abbrev pub small_places : ℕ
+small_places = 0x7FFF_FFFF
 
--- the slots are apart, the last one ends where the vector does, and there is capacity for the spare
-pub record IsSoundLayout (parts : List SizedPart) (size spare places numbers end : ℕ) : Type 0 where
+-- and large ones: as many as a vector has at most
+abbrev pub all_places : ℕ
+all_places = 0xFFFF_FFFF_FFFF_FFFF
+
+-- the slots are apart, the last one ends where the vector does, there is capacity for the spare, and entries can tell of it
+pub record IsSoundLayout (parts : List SizedPart) (size spare places numbers end most : ℕ) : Type 0 where
   pub lie : LieApart parts size
   pub places_left : size + spare ≤ places
   pub numbers_left : length parts + spare ≤ numbers
-  pub few : size + spare ≤ most_places
+  pub told : size + spare ≤ most
   pub ends : end ≡ size

@@ -6,4 +6,6 @@ pub mod Links
 pub mod PackedStates
 pub mod States
 pub mod Entries
+pub mod Rows
+pub mod LargeEntries
 pub mod Held

@@ -8,11 +8,12 @@ pub record SizedPart : Type 0 where
   pub class : ℕ
   pub filled : Option ℕ
 
--- the parts by their numbers, how many fit with no allocation, and where the last one ends
+-- the parts by their numbers, how many fit with no allocation, where the last one ends, and how far parts can reach
 pub record Parts : Type 0 where
   pub parts : List SizedPart
   pub capacity : ℕ
   pub end : ℕ
+  pub most : ℕ
 
 -- no part of this class is free
 abbrev pub AllTaken : List SizedPart → ℕ → Type 0

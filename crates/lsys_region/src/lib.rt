@@ -11,6 +11,7 @@
 
 mod class;
 mod packed;
+mod rows;
 mod table;
 
 ghost use Rattle.std.specs.Prelude.{◌≡◌, ℕ, ◌+◌, ◌<◌, ◌≤◌, length, max, Some, None, IfSome, IsOk, OnOk, OnErr, vec_capacity};
@@ -20,7 +21,7 @@ ghost use Rattle.lsys_region.specs.Rooms.{list_room};
 
 use class::class_of;
 pub use class::room;
-use packed::{Link, MOST_PLACES};
+use packed::Link;
 use std::alloc::{AllocError, Global};
 use std::marker::Model;
 use std::mem::size_of;
@@ -34,7 +35,7 @@ pub struct Run {
     part: Link,
 }
 
-const _: () = prove!(size_of::<Run>() == 4);
+const _: () = prove!(size_of::<Run>() == 8);
 
 impl Model for Run {
     ghost use Rattle.std.specs.Prelude.{ℕ, Option};
@@ -68,7 +69,7 @@ impl<T: Copy> Model for Region<T> {
       spare = a.spare;
     } };
 
-    ghost invariant = { λ a. IsSoundLayout a.table.parts (length a.cells.items) a.spare (vec_capacity a.cells) a.table.capacity a.table.end };
+    ghost invariant = { λ a. IsSoundLayout a.table.parts (length a.cells.items) a.spare (vec_capacity a.cells) a.table.capacity a.table.end a.table.most };
 }
 
 impl<T: Copy> Region<T> {
@@ -87,8 +88,7 @@ impl<T: Copy> Region<T> {
     ///
     /// # Errors
     ///
-    /// Want of memory, and only where the spare was less than `n`. Then all stays as it was. A vector of more than
-    /// 2^31 - 1 places can't be had.
+    /// Want of memory, and only where the spare was less than `n`. Then all stays as it was.
     pub fn reserve(&mut self, n: usize) -> Result<(), AllocError>
         ensures spare { OnOk result (n ≤ self.new.spare) }
         ensures runs { OnOk result (self.new ≡ record self.old { spare = max self.old.spare n }) }
@@ -98,11 +98,8 @@ impl<T: Copy> Region<T> {
         if n <= self.spare {
             return Ok(());
         }
-        if n > MOST_PLACES - self.cells.len() {
-            return Err(AllocError);
-        }
         self.cells.reserve(n)?;
-        self.table.reserve(n)?;
+        self.table.reserve(n, self.cells.len() + n)?;
         self.spare = n;
         Ok(())
     }

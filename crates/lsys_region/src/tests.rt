@@ -142,6 +142,13 @@ impl Shelf {
         self.region.free(run);
     }
 
+    /// Has the entries of the lists tell of more places than small ones can.
+    fn widen(&mut self) -> Result<(), AllocError>
+        ensures { self.new ≡ self.old }
+    {
+        widen(&mut self.region)
+    }
+
     fn len(&self) -> usize
         ensures { result ≡ self.now }
     {
@@ -156,6 +163,13 @@ impl Shelf {
         }
         true
     }
+}
+
+/// Has the entries of a region's lists tell of more places than small ones can.
+fn widen(region: &mut Region<u8>) -> Result<(), AllocError>
+    ensures { region.new ≡ region.old }
+{
+    region.table.reserve(0, 0x8000_0000)
 }
 
 /// A list of this length, told from others by its first byte.
@@ -236,4 +250,21 @@ fn run_cycles(rt: &impl Abort, alloc: Global, shelf: &mut Shelf) {
         has_cells(rt, &shelf.region, 2411);
         empty(shelf, cycle);
     }
+}
+
+#[test]
+fn lists_stay_when_their_entries_grow(rt: HostRuntime) {
+    let mut shelf = Shelf::new(rt.alloc());
+    grow_between(&rt, rt.alloc(), &mut shelf);
+}
+
+/// Fills a shelf, has its entries grow, and fills it once more in the room that was freed.
+fn grow_between(rt: &impl Abort, alloc: Global, shelf: &mut Shelf) {
+    fill(rt, alloc, shelf);
+    shelf.widen().expect(rt, "memory");
+    has_its_lists(rt, shelf);
+    empty(shelf, 7);
+    fill(rt, alloc, shelf);
+    has_its_lists(rt, shelf);
+    has_cells(rt, &shelf.region, 2411);
 }

@@ -60,5 +60,5 @@ fn errors_are_told(rt: HostRuntime) {
 
 #[test]
 fn an_answer_is_small(rt: HostRuntime) {
-    is_same(&rt, &size_of::<Answer<Brand>>(), &72);
+    is_same(&rt, &size_of::<Answer<Brand>>(), &80);
 }

@@ -9,7 +9,7 @@ pub release-requires-clause-rooms : goal.release-requires-clause-rooms
 release-requires-clause-rooms g c = c.self.invariant.lie.roomy
 
 pub invariant_of-self : goal.invariant_of-self
-invariant_of-self g c = IsSound-free c.self.invariant c.release.ensures.freed c.release.ensures.capacity c.release.ensures.end
+invariant_of-self g c = IsSound-free c.self.invariant c.release.ensures.freed c.release.ensures.capacity c.release.ensures.end c.release.ensures.most
 
 pub returns-in-Some-clause-gone : goal.returns-in-Some-clause-gone
 returns-in-Some-clause-gone g c = list_at-freed c.self.inside.cells.items c.self.inside.spare (sym c.run.view_is ∙ sym c.in-Some.ensures.same) c.release.ensures.freed

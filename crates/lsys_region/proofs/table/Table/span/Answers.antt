@@ -1,20 +1,19 @@
-use Rattle.std.proofs.Common.{sym, subst, ◌∙◌, arith}
+use Rattle.std.proofs.Common.{sym, subst}
 use Rattle.lsys_region.specs.Parts.{Parts, IsTakenPart, IsPartSpan}
+use Rattle.lsys_region.specs.Rows.{entries_of_rows}
 use Rattle.lsys_region.proofs.TableLemmas.{taken_below, not_free, taken_entry, IsPartSpan-entry}
 use Rattle.lsys_region.proofs.table.Table.span.Goals as goal
 
-pub index-entry-requires : goal.index-entry-requires
-index-entry-requires c =
-    let within = taken_below c.self.inside.entries.items c.self.inside.end c.args.number (subst (λ (t : Parts). IsTakenPart t.parts c.args.number) (sym c.self.view_is) c.requires) in
-    omega arith
+pub get-entry-requires : goal.get-entry-requires
+get-entry-requires c = taken_below (entries_of_rows c.self.inside.rows) c.self.inside.end c.args.number (subst (λ (t : Parts). IsTakenPart t.parts c.args.number) (sym c.self.view_is) c.requires)
 
 pub unreachable-requires : goal.unreachable-requires
 unreachable-requires c =
-    not_free c.self.inside.entries.items c.self.inside.end c.args.number (subst (λ (t : Parts). IsTakenPart t.parts c.args.number) (sym c.self.view_is) c.requires) c.index-entry.result.now _ c.index-entry.ensures (sym c.get.ensures.same ∙ c.in-Free.is)
+    not_free (entries_of_rows c.self.inside.rows) c.self.inside.end c.args.number (subst (λ (t : Parts). IsTakenPart t.parts c.args.number) (sym c.self.view_is) c.requires) c.get-entry.result _ c.get-entry.ensures c.in-Free.is
 
-pub returns-clause-stands : goal.returns-clause-stands
-returns-clause-stands c =
+pub returns : goal.returns
+returns c =
     let taken = subst (λ (t : Parts). IsTakenPart t.parts c.args.number) (sym c.self.view_is) c.requires in
-    let held = taken_entry c.self.inside.entries.items c.self.inside.end c.args.number taken c.index-entry.result.now c.in-Taken.len c.index-entry.ensures (sym c.in-Taken.ensures.same) in
-    subst (λ (t : Parts). IsPartSpan t.parts c.args.number c.index-entry.result.now.start c.in-Taken.len) c.self.view_is
-    (IsPartSpan-entry c.self.inside.entries.items c.self.inside.end c.args.number c.index-entry.result.now c.in-Taken.len held)
+    let held = taken_entry (entries_of_rows c.self.inside.rows) c.self.inside.end c.args.number taken c.get-entry.result c.in-Taken.len c.get-entry.ensures c.in-Taken.is in
+    subst (λ (t : Parts). IsPartSpan t.parts c.args.number c.get-entry.result.start c.in-Taken.len) c.self.view_is
+    (IsPartSpan-entry (entries_of_rows c.self.inside.rows) c.self.inside.end c.args.number c.get-entry.result c.in-Taken.len held)
