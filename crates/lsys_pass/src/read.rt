@@ -35,16 +35,16 @@ pub(crate) fn settle_reads(reads: &mut Reads, work: &mut Work)
     ensures pending { reads.new.pending ≡ [] }
     ensures moved { work.new.moved ≡ work.old.moved }
 {
-    sort_tags(&mut work.dropped);
-    sort_tags(&mut work.renewed);
+    sort_tags(reads, &mut work.dropped);
+    sort_tags(reads, &mut work.renewed);
     settle_listed(reads, &work.renewed, &work.dropped);
 }
 
-/// Makes these rise. Where they do already it costs a step for each. It takes no memory.
-fn sort_tags(tags: &mut Vec<Tag>)
+/// Makes these rise, where rows may have to be gone through for them. Where they rise already it costs a step for each. It takes no memory.
+fn sort_tags(reads: &Reads, tags: &mut Vec<Tag>)
     ensures { (k : ℕ) → has tags.new.items k ≡ has tags.old.items k }
 {
-    if !tags.iter().is_sorted_by_key(|tag| tag.0) {
+    if reads.has_rows() && !tags.iter().is_sorted_by_key(|tag| tag.0) {
         tags.sort_unstable_by_key(|tag| tag.0);
     }
 }

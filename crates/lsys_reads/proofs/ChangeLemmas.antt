@@ -1,16 +1,14 @@
 -- What a table keeps when a row loses tags, gets one, or is owed one more.
-use Rattle.std.proofs.Common.{◌≡◌, ◌≢◌, ℕ, zero, suc, ◌+◌, ◌-◌, ◌/◌, ◌<◌, ◌≤◌, ◌^◌, List, [], ◌∷◌, ◌++◌, map, length, take, drop, set, get_or, Bool, true, cond, not, ◌==◌, ◌||◌, ◌&&◌, ◌⊎◌, inl, inr, refl, sym, ap, subst, ◌∙◌, arith, length-take-le}
+use Rattle.std.proofs.Common.{◌≡◌, ◌≢◌, ℕ, zero, suc, ◌+◌, ◌-◌, ◌/◌, ◌<◌, ◌≤◌, List, [], ◌∷◌, map, length, take, drop, set, get_or, Bool, cond, ◌==◌, ◌||◌, ◌⊎◌, inl, inr, refl, sym, ap, subst, ◌∙◌, arith}
 use Rattle.std.specs.Prelude.{slice_range, sum_by}
-use Rattle.std.specs.List.{remove}
 use Rattle.std.proofs.lemmas.Bool.Decides.{leb_tells}
-use Rattle.std.proofs.lemmas.List.{get_or-take, get_or-drop, length-map}
+use Rattle.std.proofs.lemmas.List.{length-map}
 use Rattle.std.proofs.Math.ListN.{get_or-map}
 use Rattle.std.proofs.lemmas.List.Sums.{get_or-le-sum_by}
 use Rattle.lsys_reads.specs.declared.head.Head.{Head}
-use Rattle.lsys_reads.specs.Rows.{Row, tag_row, has, few, IsRising, OtherRowsStay, Cuts, Sweeps, SweepsRow, PutsTag, Reserves, RowShrinks}
+use Rattle.lsys_reads.specs.Rows.{Row, tag_row, has, few, IsRising, OtherRowsStay, Sweeps, SweepsRow, PutsTag, Reserves}
 use Rattle.lsys_reads.specs.Layout.{empty_head, row_in_cells, rows_of, kept_for, wanted, trimmed, unplaced, head_at, HaveApartCells, IsLaid, AreSoundRows, ComesToPlace, Packs}
-use Rattle.lsys_reads.proofs.RowLemmas.{has_remove, rising_remove, has_at}
-use Rattle.lsys_reads.proofs.SliceLemmas.{range_length, range_take}
+use Rattle.lsys_reads.proofs.SliceLemmas.{range_take}
 use Rattle.lsys_reads.proofs.LayoutLemmas.{tag_row_is, one_row, sound_set, laid_set, kept_set, IsWritten, range_written, others_stay, apart_placed}
 use Rattle.lsys_reads.proofs.PackLemmas.{wanted_moved}
 
@@ -42,6 +40,38 @@ bare_row cells h none =
     let no_tags : [] ≡ slice_range cells h.start (h.start + h.len) = ap (λ (n : ℕ). take n (drop h.start cells)) (let e : 0 ≡ h.start + h.len - h.start = omega (arith, none) in e) in
     let no_owed : 0 ≡ h.owed = omega (arith, none) in
     ap (λ (l : List ℕ). record { tags = l; owed = 0 }) no_tags ∙ ap (λ (n : ℕ). record { tags = slice_range cells h.start (h.start + h.len); owed = n }) no_owed
+
+-- what a row is to hold has room, and so has one more of what is kept behind all rows
+pub record HasRoom (h : Head) (kept capacity : ℕ) : Type 0 where
+  pub due : h.len + h.owed ≤ capacity
+  pub more : kept - wanted h + kept_for (h.len + h.owed + 1) h.room ≤ capacity + (capacity + 1) / 16 + 2
+
+pub has_room : (heads : List Head) (size kept capacity n : ℕ) (h : Head) → AreSoundRows heads size kept capacity → n < length heads → h ≡ head_at heads n → HasRoom h kept capacity
+has_room heads size kept capacity n h sound within is =
+    let inside : h.start + h.room ≤ size = subst (λ (x : Head). x.start + x.room ≤ size) (sym is) (sound.laid.inside n) in
+    let part : wanted h ≤ sum_by wanted heads = subst (λ (x : Head). wanted x ≤ sum_by wanted heads) (sym is) (get_or-le-sum_by wanted heads n empty_head within) in
+    let sum = sound.kept_is in
+    let left = sound.places_left in
+    elim (kept_tells (h.len + h.owed) h.room) [
+      | inl fits ↦
+          (let most = fits.0 in let none = fits.1 in
+          record {
+            due = omega (arith, most, inside, left);
+            more = elim (kept_tells (h.len + h.owed + 1) h.room) [
+              | inl also ↦ (let nothing = also.1 in omega (arith, nothing, none, left))
+              | inr lacks ↦ (let more = lacks.1 in omega (arith, more, none, most, inside, left))
+            ];
+          })
+      | inr lacks ↦
+          (let all = lacks.1 in let few = lacks.0 in
+          record {
+            due = omega (arith, all, part, sum, left);
+            more = elim (kept_tells (h.len + h.owed + 1) h.room) [
+              | inl also ↦ (let nothing = also.1 in omega (arith, nothing, left))
+              | inr more ↦ (let many = more.1 in omega (arith, many, all, part, sum, left))
+            ];
+          })
+    ]
 
 -- the head of a row is this one now: it has this row, and the others stay
 pub record Turns (cells cells' : List ℕ) (heads : List Head) (n : ℕ) (t : Head) (row : Row) (kept capacity : ℕ) : Type 0 where
@@ -105,49 +135,6 @@ reaches cells [] n some = absurd (omega (arith, some))
 reaches cells (h ∷ heads) zero some = omega arith
 reaches cells (h ∷ heads) (suc n) some = let before = reaches cells heads n some in omega (arith, before)
 
--- what a row without its last tag has
-pub record Pops (old new : List Row) (tag other : ℕ) : Type 0 where
-  pub some : has (tag_row old tag).tags other ≡ true
-  pub cuts : Cuts old new tag other
-  pub shorter : RowShrinks tag old new
-  pub rising : IsRising (tag_row new tag).tags
-
-pub pops : (cells : List ℕ) (heads : List Head) (n kept capacity other : ℕ) (h less t : Head) → h ≡ head_at heads n → h.start + h.room ≤ length cells → h.len ≤ h.room
-    → 0 < h.len → less ≡ record { start = h.start; room = h.room; len = h.len - 1; owed = h.owed } → other ≡ get_or cells (h.start + (h.len - 1)) 0
-    → IsRising (tag_row (rows_of cells heads) n).tags → Turns cells cells heads n t (row_in_cells cells less) kept capacity → Pops (rows_of cells heads) (rows_of cells (set heads n t)) n other
-pops cells heads n kept capacity other h less t is inside fits some less_is last rising turns =
-    let xs = slice_range cells h.start (h.start + h.len) in
-    let was = ap (λ (r : Row). r.tags) (old_row cells heads n h is) in
-    let many : length xs ≡ h.len = range_length cells h.start h.len (omega (arith, inside, fits)) in
-    let none : drop (suc (h.len - 1)) xs ≡ [] = no_rest (suc (h.len - 1)) xs (omega (arith, many, some)) in
-    let now : (tag_row (rows_of cells (set heads n t)) n).tags ≡ remove xs (h.len - 1) =
-    ap (λ (r : Row). r.tags) (turns.own ∙ ap (row_in_cells cells) less_is) ∙ range_take cells h.start h.len (h.len - 1) (omega arith)
-    ∙ sym (ap (λ (l : List ℕ). take (h.len - 1) xs ++ l) none ∙ append_none (take (h.len - 1) xs)) in
-    let within : h.len - 1 < length xs = omega (arith, many, some) in
-    let at : get_or xs (h.len - 1) 0 ≡ other = get_or-take (h.start + h.len - h.start) (drop h.start cells) (h.len - 1) 0 (omega (arith, some)) ∙ get_or-drop h.start cells (h.len - 1) 0 ∙ sym last in
-    let rises : IsRising xs = subst IsRising was rising in
-    let shorter : length (remove xs (h.len - 1)) ≡ h.len - 1 = ap length (ap (λ (l : List ℕ). take (h.len - 1) xs ++ l) none ∙ append_none (take (h.len - 1) xs)) ∙ length-take-le (h.len - 1) xs (omega (arith, many)) in
-    record {
-      some = ap (λ (l : List ℕ). has l other) was ∙ has_at xs (h.len - 1) other within at;
-      cuts = record {
-        tags = λ q. ap (λ (l : List ℕ). has l q) now ∙ has_remove xs (h.len - 1) other q rises within at ∙ sym (ap (λ (l : List ℕ). not (other == q) && has l q) was);
-        owed = ap (λ (r : Row). r.owed) (turns.own ∙ ap (row_in_cells cells) less_is) ∙ sym (ap (λ (r : Row). r.owed) (old_row cells heads n h is));
-        others = turns.others;
-      };
-      shorter = (let one = ap length now in let two = ap length was in omega (arith, one, two, shorter, many, some));
-      rising = subst IsRising (sym now) (rising_remove xs (h.len - 1) rises);
-    }
-  where
-    no_rest : (n : ℕ) (l : List ℕ) → length l ≤ n → drop n l ≡ []
-    no_rest zero [] most = refl
-    no_rest zero (x ∷ l) most = absurd (omega (arith, most))
-    no_rest (suc n) [] most = refl
-    no_rest (suc n) (x ∷ l) most = no_rest n l (omega (arith, most))
-
-    append_none : (l : List ℕ) → l ++ [] ≡ l
-    append_none [] = refl
-    append_none (x ∷ l) = ap (λ (r : List ℕ). x ∷ r) (append_none l)
-
 -- what was written to a row leaves the others
 pub others_written : (cells cells' list : List ℕ) (heads : List Head) (n : ℕ) (h : Head) → IsLaid heads (length cells) → h ≡ head_at heads n → length list ≡ h.room → IsWritten cells cells' h.start list
     → (k : ℕ) → k ≢ n → row_in_cells cells' (head_at heads k) ≡ row_in_cells cells (head_at heads k)
@@ -178,6 +165,11 @@ sweeps_row cells cells' list gone heads n kept capacity other h less t is writte
       owed = ap (λ (r : Row). r.owed) turns.own ∙ owed ∙ sym (ap (λ (r : Row). r.owed) (old_row cells heads n h is));
       others = turns.others;
     }
+
+-- so it is, where the table tells it
+pub owed_there : (cells : List ℕ) (heads : List Head) (n tag : ℕ) (rows : List Row) → rows_of cells heads ≡ rows → n ≡ tag → 0 < (tag_row rows tag).owed → n < length heads
+owed_there cells heads n tag rows is same some =
+    reaches cells heads n (subst (λ (m : ℕ). 0 < (tag_row (rows_of cells heads) m).owed) (sym same) (subst (λ (r : List Row). 0 < (tag_row r tag).owed) (sym is) some))
 
 -- one less is owed
 pub releases : (cells : List ℕ) (heads : List Head) (n kept capacity : ℕ) (h less t : Head) → h ≡ head_at heads n → 0 < h.owed → less ≡ record { start = h.start; room = h.room; len = h.len; owed = h.owed - 1 }
@@ -221,7 +213,6 @@ turns_more cells cells1 cells' list heads n kept gives capacity capacity' len h 
         laid = laid_set heads (length cells) (length cells') n (with_one p len) sound.laid within (omega (arith, size)) (omega (arith, within', one)) fits (apart_placed cells cells1 heads n p sound.laid there);
         kept_is = kept_set heads n kept (kept - gives) (with_one p len) within sound.kept_is (omega (arith, none, same, least, gives_is));
         places_left = (let left = sound.places_left in omega (arith, left, size, same, least, gives_is, more));
-        numbers_left = (let left = sound.numbers_left in omega (arith, left, size, same, least, gives_is));
       };
       own = moved.0 ∙ ap (λ (l : List ℕ). record { tags = l; owed = p.owed - 1 }) (own_written cells1 cells' list p.start len written (omega (arith, fits, many)));
       others = moved.1;
@@ -272,20 +263,19 @@ pub record IsReady (old new : List Head) (cells cells' : List ℕ) (n kept gives
   pub moved : Packs old new cells cells'
   pub laid : IsLaid new (length cells')
   pub places : length cells' + (kept - gives + takes) ≤ capacity
-  pub numbers : length cells' + (kept - gives + takes) < 2 ^ 32
 
--- one more is a number
-pub owed_fits : (old new : List Head) (cells cells' : List ℕ) (n kept gives takes capacity : ℕ) (h h' : Head) → IsReady old new cells cells' n kept gives takes capacity h h' → h'.owed + 1 < 2 ^ 32
+-- one more is no more than there is room for
+pub owed_fits : (old new : List Head) (cells cells' : List ℕ) (n kept gives takes capacity : ℕ) (h h' : Head) → IsReady old new cells cells' n kept gives takes capacity h h' → h'.owed + 1 ≤ capacity
 owed_fits old new cells cells' n kept gives takes capacity h h' ready =
     let same = same_size old new n h h' ready.moved.heads ready.is_old ready.is_new in
     let owed : h'.owed ≡ h.owed = ap (λ (x : Head). x.owed) same in
     let room : h'.room ≡ h.room = ap (λ (x : Head). x.room) same in
     let inside : h'.start + h'.room ≤ length cells' = subst (λ (x : Head). x.start + x.room ≤ length cells') (sym ready.is_new) (ready.laid.inside n) in
-    let numbers = ready.numbers in
+    let places = ready.places in
     let takes_is = ready.takes_is in
     elim (kept_tells (h.len + h.owed + 1) h.room) [
-      | inl fits ↦ (let most = fits.0 in omega (arith, owed, room, inside, numbers, most))
-      | inr lacks ↦ (let more = lacks.1 in omega (arith, owed, numbers, more, takes_is))
+      | inl fits ↦ (let most = fits.0 in omega (arith, owed, room, inside, places, most))
+      | inr lacks ↦ (let more = lacks.1 in omega (arith, owed, places, more, takes_is))
     ]
 
 -- and the table keeps the room for it
@@ -317,7 +307,6 @@ owes old new cells cells' n kept gives takes capacity h h' ready =
         laid = laid_set new (length cells') (length cells') n t ready.laid within (omega arith) inside fits apart;
         kept_is = kept_set new n kept (kept - gives + takes) t within sum (omega (arith, was, now, some, gives_is));
         places_left = ready.places;
-        numbers_left = ready.numbers;
       };
       reserves = record {
         row = moved.0 ∙ ap (λ (r : Row). record { tags = r.tags; owed = r.owed + 1 }) (sym (old_row cells' new n h' is_new) ∙ ap (λ (rows : List Row). tag_row rows n) ready.moved.rows);

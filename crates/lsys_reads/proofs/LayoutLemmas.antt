@@ -39,7 +39,7 @@ written_over old base ys list start k len whole part many counted inside =
     })
 
 -- what stands before the end of an unchanged front
-range_front : (old new : List ℕ) (front from to : ℕ) → take front new ≡ take front old → to ≤ front → slice_range new from to ≡ slice_range old from to
+pub range_front : (old new : List ℕ) (front from to : ℕ) → take front new ≡ take front old → to ≤ front → slice_range new from to ≡ slice_range old from to
 range_front old new front from to same inside =
     between_is new from to
     ∙ ap (drop from) (sym (take-take to front new inside) ∙ ap (take to) same ∙ take-take to front old inside)
@@ -161,7 +161,6 @@ sound_more heads size kept capacity sound = record {
   };
   kept_is = sound.kept_is ∙ (let e : sum_by wanted heads ≡ sum_by wanted heads + wanted empty_head = omega arith in e) ∙ sym (sum_by_push wanted heads empty_head);
   places_left = sound.places_left;
-  numbers_left = sound.numbers_left;
 }
 
 -- the head of a row is changed in its cells, or gives them up
@@ -171,5 +170,4 @@ sound_set heads size kept kept' capacity n h sound within inside fits apart chan
   laid = laid_set heads size size n h sound.laid within (omega arith) inside fits apart;
   kept_is = kept_set heads n kept kept' h within sound.kept_is change;
   places_left = (let room = sound.places_left in omega (arith, room, less));
-  numbers_left = (let room = sound.numbers_left in omega (arith, room, less));
 }

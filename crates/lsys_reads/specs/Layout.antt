@@ -1,5 +1,5 @@
 -- How the rows of a table lie in its cells.
-use Rattle.std.specs.Prelude.{◌≡◌, ◌≢◌, ℕ, ◌+◌, ◌/◌, ◌<◌, ◌≤◌, ◌^◌, nat_le, cond, List, map, length, take, slice_range, slice_index_or, sum_by, ◌⊎◌}
+use Rattle.std.specs.Prelude.{◌≡◌, ◌≢◌, ℕ, ◌+◌, ◌/◌, ◌≤◌, nat_le, cond, List, map, length, take, slice_range, slice_index_or, sum_by, ◌⊎◌}
 use Rattle.lsys_reads.specs.declared.head.Head.{Head}
 use Rattle.lsys_reads.specs.Rows.{Row}
 
@@ -48,7 +48,6 @@ pub record AreSoundRows (heads : List Head) (size kept capacity : ℕ) : Type 0 
   pub laid : IsLaid heads size
   pub kept_is : kept ≡ sum_by wanted heads
   pub places_left : size + kept ≤ capacity
-  pub numbers_left : size + kept < 2 ^ 32
 
 -- a head without its place
 abbrev pub unplaced : Head → Head

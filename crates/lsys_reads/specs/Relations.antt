@@ -1,8 +1,9 @@
 -- What a contract sees of two relations between readers and what they saw.
-use Rattle.std.specs.Prelude.{◌≡◌, ◌≢◌, ℕ, ◌+◌, List, [], ◌∷◌, ◌++◌, map, slice_index_or, Bool, ◌||◌, ◌&&◌, not, ◌==◌, cond, true, false, refl}
+use Rattle.std.specs.Prelude.{◌≡◌, ◌≢◌, ℕ, ◌+◌, ◌<◌, ◌≤◌, List, [], ◌∷◌, ◌++◌, map, length, slice_index_or, Bool, ◌||◌, ◌&&◌, not, ◌==◌, cond, true, false, refl}
 use Rattle.std.specs.Coded.{Coded, code_by, coded×, coded_ℕ, coded_list}
 use Rattle.lsys_reads.specs.declared.Pair.{Pair}
-use Rattle.lsys_reads.specs.Rows.{Row, tag_row, has, AreRising, OtherRowsStay}
+use Rattle.lsys_reads.specs.Rows.{Row, tag_row, has, AreRising}
+use Rattle.lsys_reads.specs.Runs.{Sights, sights_by}
 
 -- the settled readers of each tag, and the pending pairs
 pub record Relations : Type 0 where
@@ -45,28 +46,27 @@ occurrences (x ∷ tags) tag = cond (x == tag) 1 0 + occurrences tags tag
 abbrev pub seen_tag : Pair → ℕ
 seen_tag p = p.seen
 
-abbrev pub reader_of : Pair → ℕ
-reader_of p = p.reader
+-- who is settled to read a tag saw it
+abbrev pub Covers : List Row → Sights → Type 0
+Covers by_seen by_reader = (reader seen : ℕ) → has (tag_row by_seen seen).tags reader ≡ true → has (sights_by by_reader reader) seen ≡ true
 
--- both directions say the same, and each row keeps room for what is pending there
-pub record AgreeBothWays (by_seen by_reader : List Row) (pending : List Pair) : Type 0 where
-  pub agree : (reader seen : ℕ) → has (tag_row by_seen seen).tags reader ≡ has (tag_row by_reader reader).tags seen
-  pub owed_seen : (tag : ℕ) → (tag_row by_seen tag).owed ≡ occurrences (map seen_tag pending) tag
-  pub owed_reader : (tag : ℕ) → (tag_row by_reader tag).owed ≡ occurrences (map reader_of pending) tag
+-- what readers saw has all that is settled, and there is room for what is pending
+pub record KeepsPairs (by_seen : List Row) (by_reader : Sights) (pending : List Pair) : Type 0 where
+  pub covers : Covers by_seen by_reader
+  pub owed : (tag : ℕ) → (tag_row by_seen tag).owed ≡ occurrences (map seen_tag pending) tag
+  pub reach : (reader seen : ℕ) → pairs_have pending reader seen ≡ true → reader < length by_reader.rows
+  pub room : length pending ≤ by_reader.room
 
--- what the first table has the second has
-abbrev pub Covers : List Row → List Row → Type 0
-Covers by_seen by_reader = (reader seen : ℕ) → has (tag_row by_seen seen).tags reader ≡ true → has (tag_row by_reader reader).tags seen ≡ true
+-- none of these tags is settled to be read by the reader
+abbrev pub LackReader : List ℕ → List Row → ℕ → Type 0
+LackReader tags rows reader = (seen : ℕ) → has tags seen ≡ true → has (tag_row rows seen).tags reader ≡ false
 
--- pairs of the reader and, among the rows of readers, of some in `gone` are taken out: s and r were the two tables, and s' and r' are now
-pub record Forgets (s r s' r' : List Row) (reader : ℕ) (gone : List ℕ) : Type 0 where
-  pub covers : Covers s' r'
-  pub kept : (other seen : ℕ) → other ≢ reader → has gone other ≡ false → has (tag_row s' seen).tags other ≡ has (tag_row s seen).tags other
-  pub others : OtherRowsStay r r' reader
-  pub owed_seen : (tag : ℕ) → (tag_row s' tag).owed ≡ (tag_row s tag).owed
-  pub owed_reader : (tag : ℕ) → (tag_row r' tag).owed ≡ (tag_row r tag).owed
-  pub rising_seen : AreRising s'
-  pub rising_reader : AreRising r'
+-- no readers are taken out but this one and some of those in `gone`
+pub record Thins (old new : List Row) (reader : ℕ) (gone : List ℕ) : Type 0 where
+  pub kept : (other seen : ℕ) → other ≢ reader → has gone other ≡ false → has (tag_row new seen).tags other ≡ has (tag_row old seen).tags other
+  pub fewer : (other seen : ℕ) → has (tag_row new seen).tags other ≡ true → has (tag_row old seen).tags other ≡ true
+  pub owed : (tag : ℕ) → (tag_row new tag).owed ≡ (tag_row old tag).owed
+  pub rising : AreRising new
 
 -- so do the pending pairs
 abbrev pub PendingStay : Relations → Relations → Type 0

@@ -7,10 +7,10 @@ ghost use Rattle.lsys_reads.specs.Layout.{empty_head, kept_for, wanted, trimmed}
 /// For `owed` tags more room is kept: in these cells, or behind all rows, if these are too few.
 #[derive(Clone, Copy, Drop)]
 pub(crate) struct Head {
-    pub(crate) start: u32,
-    pub(crate) room: u32,
-    pub(crate) len: u32,
-    pub(crate) owed: u32,
+    pub(crate) start: usize,
+    pub(crate) room: usize,
+    pub(crate) len: usize,
+    pub(crate) owed: usize,
 }
 
 impl Head {
@@ -26,23 +26,17 @@ impl Head {
         }
     }
 
-    /// How many tags the row is to hold.
-    pub(crate) fn due(self) -> usize
-        ensures value { result ≡ self.len + self.owed }
-        ensures bound { result < 2 ^ 33 }
-    {
-        self.len as usize + self.owed as usize
-    }
-
     /// How many cells are kept behind all rows for this one.
+    #[inline]
     pub(crate) fn wanted(self) -> usize
-        ensures value { result ≡ wanted self }
-        ensures bound { result < 2 ^ 34 }
+        requires { self.len + self.owed < 2 ^ 63 }
+        ensures { result ≡ wanted self }
     {
-        kept_for(self.due(), self.room as usize)
+        kept_for(self.len + self.owed, self.room)
     }
 
     /// The head, without its cells if it has no tags and is owed none.
+    #[inline]
     pub(crate) fn trimmed(self) -> Head
         ensures { result ≡ trimmed self }
     {
@@ -55,10 +49,10 @@ impl Head {
 
 /// How many cells are kept behind all rows for one that is to hold so many tags in so many cells: none, if these are
 /// enough; else a sixteenth more than it needs, so that a row that grows for long is seldom moved.
+#[inline]
 pub(crate) fn kept_for(due: usize, room: usize) -> usize
-    requires { due ≤ 2 ^ 33 }
-    ensures value { result ≡ kept_for due room }
-    ensures bound { result < 2 ^ 34 }
+    requires { due ≤ 2 ^ 63 }
+    ensures { result ≡ kept_for due room }
 {
     if due <= room { 0 } else { due + due / 16 }
 }

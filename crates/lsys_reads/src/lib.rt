@@ -1,21 +1,24 @@
 //! Two finite relations on tags, settled and pending: which reader's answer read which symbol.
 //!
-//! Each direction has a row of rising tags for each tag, so that a change costs by the rows that it touches. All rows of
-//! a direction stand in one vector. Room for what is pending is kept in both by [`Reads::add`], so that
-//! [`Reads::settle`] and [`Reads::retract`] take no memory.
+//! Each tag that is read has a row of its readers, which rises, and each reader a run of what it saw, which is only gone
+//! through to forget it. So a change costs by what it touches. All rows stand in one vector, and all runs in another. Room
+//! for what is pending is kept in both by [`Reads::add`], so that [`Reads::settle`] and [`Reads::retract`] take no memory.
 #![tactic(auto)]
 
 mod head;
 mod pack;
 mod row;
+mod runs;
 mod table;
 
-ghost use Rattle.std.specs.Prelude.{◌≡◌, ℕ, ◌<◌, ◌≤◌, ◌++◌, ◌∷◌, [], length, take, OnOk, OnErr, IfNone, IfSome};
+ghost use Rattle.std.specs.Prelude.{◌≡◌, ℕ, ◌<◌, ◌++◌, ◌∷◌, [], length, take, false, vec_capacity, OnOk, OnErr, IfNone, IfSome};
 ghost use Rattle.std.specs.List.Sorted.{IsPermutation};
-ghost use Rattle.lsys_reads.specs.Rows.{has, IsRising, AreRising, tag_row};
-ghost use Rattle.lsys_reads.specs.Relations.{is_settled, SettledStay, Covers, Forgets, AddsPending, SettlesGone, ForgetsGone, SettlesPending, PendingStay};
+ghost use Rattle.lsys_reads.specs.Rows.{has, tag_row, IsRising, AreRising};
+ghost use Rattle.lsys_reads.specs.Runs.{ClearsSights};
+ghost use Rattle.lsys_reads.specs.Relations.{is_settled, SettledStay, Covers, LackReader, Thins, AddsPending, SettlesGone, ForgetsGone, SettlesPending, PendingStay};
 
 use lsys_level::Tag;
+use runs::Runs;
 use std::alloc::{AllocError, Global};
 use std::cmp::Reverse;
 use std::marker::Model;
@@ -32,13 +35,13 @@ pub struct Pair {
 #[derive(Drop)]
 pub struct Reads {
     by_seen: Table,
-    by_reader: Table,
+    by_reader: Runs,
     pending: Vec<Pair>,
 }
 
 impl Model for Reads {
     ghost use Rattle.lsys_reads.specs.Rows.{AreRising};
-    ghost use Rattle.lsys_reads.specs.Relations.{Relations, relations_code, relations_of, AgreeBothWays};
+    ghost use Rattle.lsys_reads.specs.Relations.{Relations, relations_code, relations_of, KeepsPairs};
 
     ghost Value = { Relations };
 
@@ -46,7 +49,7 @@ impl Model for Reads {
 
     ghost view = { λ r. relations_of r.by_seen r.pending.items };
 
-    ghost invariant = { λ r. AgreeBothWays r.by_seen r.by_reader r.pending.items × AreRising r.by_seen × AreRising r.by_reader };
+    ghost invariant = { λ r. KeepsPairs r.by_seen r.by_reader r.pending.items × AreRising r.by_seen };
 }
 
 impl Reads {
@@ -57,31 +60,26 @@ impl Reads {
     {
         Reads {
             by_seen: Table::new(alloc),
-            by_reader: Table::new(alloc),
+            by_reader: Runs::new(alloc),
             pending: Vec::new(alloc),
         }
     }
 
-    /// Adds the pair to the pending ones, and keeps the room for it. Where there is none left all rows of a direction are
-    /// moved into a vector with half as much room again.
+    /// Adds the pair to the pending ones, and keeps the room for it. Where there is none left all rows, or all runs, are moved
+    /// into a vector with half as much room again.
     ///
     /// # Errors
     ///
-    /// Want of memory, or of numbers: a direction has no more room than 32 bits count. Then both relations stay.
+    /// Want of memory. Then both relations stay.
     pub fn add(&mut self, reader: Tag, seen: Tag) -> Result<(), AllocError>
         ensures settled { SettledStay self.old self.new }
         ensures ok { OnOk result (AddsPending reader seen self.old self.new) }
         ensures err { OnErr result (self.new.pending ≡ self.old.pending) }
     {
-        self.pending.reserve(1)?;
+        make_room(&mut self.pending)?;
+        let many = self.pending.len();
+        self.by_reader.reserve(reader, many + 1)?;
         self.by_seen.reserve(seen)?;
-        match self.by_reader.reserve(reader) {
-            Ok(()) => {}
-            Err(error) => {
-                self.by_seen.release(seen);
-                return Err(error);
-            }
-        }
         match self.pending.push(Pair { reader, seen }) {
             Ok(()) => Ok(()),
             Err(_) => unreachable!(),
@@ -94,6 +92,11 @@ impl Reads {
         ensures rising { IsRising result.now }
     {
         self.by_seen.tags(seen)
+    }
+
+    /// Whether any tag may have settled readers. It costs one step, and is asked where the answer only tells what costs less.
+    pub fn has_rows(&self) -> bool {
+        self.by_seen.has_cells()
     }
 
     /// How many pairs are pending.
@@ -131,7 +134,6 @@ impl Reads {
         match self.pending.pop() {
             Some(pair) => {
                 self.by_seen.release(pair.seen);
-                self.by_reader.release(pair.reader);
                 Some(pair)
             }
             None => None,
@@ -144,7 +146,8 @@ impl Reads {
     /// It costs steps by the pairs that come and go. Up to a few hundred of them in one row move the tags behind them,
     /// each for itself; where there may be more, the row is gone through once for all, in steps by its length and the
     /// logarithm of that. So if the readers in `gone` rise; else a row may be gone through for each of them. A row that has
-    /// too little room for what comes is moved, and gets a sixteenth more than it needs.
+    /// too little room for what comes is moved, and gets a sixteenth more than it needs. A reader that has settled pairs and
+    /// gets more without being in `gone` costs, when it is forgotten, also by the pairs that were settled between.
     pub fn settle(&mut self, gone: &[Tag])
         ensures settled { SettlesGone gone.now self.old self.new }
         ensures pending { self.new.pending ≡ [] }
@@ -189,6 +192,18 @@ impl Reads {
     }
 }
 
+/// Makes room for one pair more.
+#[inline]
+fn make_room(pending: &mut Vec<Pair>) -> Result<(), AllocError>
+    ensures pairs { pending.new.items ≡ pending.old.items }
+    ensures ok { OnOk result (length pending.new.items < vec_capacity pending.new) }
+{
+    if pending.len() < pending.capacity() {
+        return Ok(());
+    }
+    pending.reserve(1)
+}
+
 /// How many pending pairs are settled before the room that they took is given back.
 const MANY: usize = 1 << 16;
 
@@ -201,62 +216,36 @@ fn give_back(pending: &mut Vec<Pair>)
     }
 }
 
-/// Makes the readers of these pairs fall. Where they rise it costs a step for each, and what each of them saw then falls too, if it
-/// was noted from one end to the other, or to both ends from the middle.
+/// Makes the readers of these pairs fall. Where they rise it costs a step for each.
 fn make_fall(pairs: &mut Vec<Pair>)
     ensures { IsPermutation pairs.old.items pairs.new.items }
 {
     if pairs.iter().is_sorted_by_key(|pair| pair.reader) {
-        turn_falling(pairs);
         pairs.reverse();
     } else {
         pairs.sort_unstable_by_key(|pair| Reverse(pair.reader));
     }
 }
 
-/// Turns what a reader saw round where it falls.
-fn turn_falling(pairs: &mut [Pair])
-    ensures { IsPermutation pairs.old pairs.new }
-{
-    let mut at = 0;
-    while at < pairs.len() {
-        let end = falling_end(pairs, at);
-        if at + 1 < end {
-            pairs[at..end].reverse();
-        }
-        at = end;
-    }
-}
-
-/// Where what one reader saw falls no more, from this pair on.
-fn falling_end(pairs: &[Pair], at: usize) -> usize
-    requires { at < length pairs.now }
-    ensures further { at < result }
-    ensures within { result ≤ length pairs.now }
-{
-    let mut end = at + 1;
-    while end < pairs.len() && falls(&pairs[at..end], &pairs[end]) {
-        end += 1;
-    }
-    end
-}
-
-/// Whether a reader saw what is lower than the last of these that it saw, or than the one before that: of a branch that it passed it saw
-/// both ends.
-fn falls(before: &[Pair], pair: &Pair) -> bool {
-    before.iter().rev().take(2).any(|earlier| earlier.reader == pair.reader
-        && pair.seen < earlier.seen)
-}
-
-/// Takes all pairs of the reader out of both tables, and from the rows of readers maybe others in `gone`.
-fn forget_one(by_seen: &mut Table, by_reader: &mut Table, reader: Tag, gone: &[Tag])
+/// Takes all pairs of the reader out, and from the rows of readers maybe others in `gone`.
+fn forget_one(by_seen: &mut Table, by_reader: &mut Runs, reader: Tag, gone: &[Tag])
     requires covers { Covers by_seen.old by_reader.old }
-    requires rising_seen { AreRising by_seen.old }
-    requires rising_reader { AreRising by_reader.old }
-    ensures forgets { Forgets by_seen.old by_reader.old by_seen.new by_reader.new reader gone.now }
-    ensures none { (tag_row by_reader.new reader).tags ≡ [] }
+    requires rising { AreRising by_seen.old }
+    ensures thins { Thins by_seen.old by_seen.new reader gone.now }
+    ensures none { (seen : ℕ) → has (tag_row by_seen.new seen).tags reader ≡ false }
+    ensures clears { ClearsSights by_reader.old by_reader.new reader }
 {
-    while let Some(seen) = by_reader.pop(reader) {
-        by_seen.sweep(seen, reader, gone);
+    sweep_all(by_seen, by_reader.run(reader), reader, gone);
+    by_reader.clear(reader);
+}
+
+/// Takes the reader out of the rows of these tags, and maybe others in `gone`.
+fn sweep_all(by_seen: &mut Table, tags: &[Tag], reader: Tag, gone: &[Tag])
+    requires { AreRising by_seen.old }
+    ensures thins { Thins by_seen.old by_seen.new reader gone.now }
+    ensures lost { LackReader tags.now by_seen.new reader }
+{
+    for seen in tags {
+        by_seen.sweep(*seen, reader, gone);
     }
 }

@@ -11,7 +11,8 @@ use std::alloc::{AllocError, Global};
 ///
 /// # Errors
 ///
-/// Want of memory, or of numbers: there are no more cells than 32 bits count. Then all rows stay.
+/// Want of memory. Then all rows stay.
+#[inline]
 pub(crate) fn provide(
     alloc: Global,
     heads: &mut Vec<Head>,
@@ -22,7 +23,6 @@ pub(crate) fn provide(
     ensures pack { OnOk result (Packs heads.old.items heads.new.items cells.old.items cells.new.items) }
     ensures laid { OnOk result (IsLaid heads.new.items (length cells.new.items)) }
     ensures capacity { OnOk result (length cells.new.items + behind ≤ vec_capacity cells.new) }
-    ensures numbers { OnOk result (length cells.new.items + behind < 2 ^ 32) }
     ensures heads { OnErr result (heads.new ≡ heads.old) }
     ensures cells { OnErr result (cells.new ≡ cells.old) }
 {
@@ -32,16 +32,17 @@ pub(crate) fn provide(
     pack(alloc, heads, cells, behind)
 }
 
-/// Whether there are so many cells behind all rows, and numbers for them.
+/// Whether there is room for so many cells behind all rows.
+#[inline]
 fn has_room(cells: &Vec<Tag>, behind: usize) -> bool
-    ensures capacity { result ≡ true → length cells.now.items + behind ≤ vec_capacity cells.now }
-    ensures numbers { result ≡ true → length cells.now.items + behind < 2 ^ 32 }
+    ensures { result ≡ true → length cells.now.items + behind ≤ vec_capacity cells.now }
 {
-    let most = cells.capacity().min(u32::MAX as usize);
-    behind <= most && cells.len() <= most - behind
+    behind <= cells.capacity() - cells.len()
 }
 
 /// Moves all rows to the front of a new vector, one behind the other, with room for so many cells behind them.
+#[cold]
+#[inline(never)]
 fn pack(
     alloc: Global,
     heads: &mut Vec<Head>,
@@ -52,7 +53,6 @@ fn pack(
     ensures pack { OnOk result (Packs heads.old.items heads.new.items cells.old.items cells.new.items) }
     ensures laid { OnOk result (IsLaid heads.new.items (length cells.new.items)) }
     ensures capacity { OnOk result (length cells.new.items + behind ≤ vec_capacity cells.new) }
-    ensures numbers { OnOk result (length cells.new.items + behind < 2 ^ 32) }
     ensures heads { OnErr result (heads.new ≡ heads.old) }
     ensures cells { OnErr result (cells.new ≡ cells.old) }
 {
@@ -63,9 +63,6 @@ fn pack(
         moved.push(append(&mut packed, cells, head)?)?;
     }
     packed.reserve(behind)?;
-    if !has_room(&packed, behind) {
-        return Err(AllocError);
-    }
     *heads = moved;
     *cells = packed;
     Ok(())
@@ -77,31 +74,43 @@ fn append(packed: &mut Vec<Tag>, cells: &[Tag], head: Head) -> Result<Head, Allo
     ensures start { IfOk result (λ moved. moved ≡ record head { start = length packed.old.items }) }
     ensures cells { OnOk result (packed.new.items ≡ packed.old.items ++ cells_of cells.now head) }
 {
-    let Ok(start) = u32::try_from(packed.len()) else {
-        return Err(AllocError);
-    };
-    let from = head.start as usize;
-    packed.extend_from_slice(&cells[from..from + head.room as usize])?;
+    let start = packed.len();
+    packed.extend_from_slice(&cells[head.start..head.start + head.room])?;
     Ok(Head { start, ..head })
 }
 
 /// The head of the row with room for all that it is owed: its own, or one behind all rows, where the tags stand now. It
 /// takes no memory.
-pub(crate) fn placed(cells: &mut Vec<Tag>, head: Head) -> Head
+#[inline]
+pub(crate) fn placed(cells: &mut Vec<Tag>, head: Head, room: usize) -> Head
+    requires wanted { room ≡ wanted head }
     requires inside { head.start + head.room ≤ length cells.old.items }
     requires fits { head.len ≤ head.room }
     requires capacity { length cells.old.items + wanted head ≤ vec_capacity cells.old }
-    requires numbers { length cells.old.items + wanted head < 2 ^ 32 }
     ensures placed { ComesToPlace cells.old.items cells.new.items head result }
     ensures capacity { vec_capacity cells.old ≤ vec_capacity cells.new }
 {
-    let room = head.wanted();
     if room == 0 {
-        return head;
+        head
+    } else {
+        moved(cells, head, room)
     }
+}
+
+/// The same, where so many cells are kept for it behind all rows.
+#[cold]
+#[inline(never)]
+fn moved(cells: &mut Vec<Tag>, head: Head, room: usize) -> Head
+    requires wanted { room ≡ wanted head }
+    requires some { 0 < room }
+    requires inside { head.start + head.room ≤ length cells.old.items }
+    requires fits { head.len ≤ head.room }
+    requires capacity { length cells.old.items + wanted head ≤ vec_capacity cells.old }
+    ensures placed { ComesToPlace cells.old.items cells.new.items head result }
+    ensures capacity { vec_capacity cells.old ≤ vec_capacity cells.new }
+{
     let start = cells.len();
-    let from = head.start as usize;
-    match cells.extend_from_within(from..from + head.len as usize) {
+    match cells.extend_from_within(head.start..head.start + head.len) {
         Ok(()) => {}
         Err(_) => unreachable!(),
     }
@@ -110,8 +119,8 @@ pub(crate) fn placed(cells: &mut Vec<Tag>, head: Head) -> Head
         Err(_) => unreachable!(),
     }
     Head {
-        start: start as u32,
-        room: room as u32,
+        start,
+        room,
         ..head
     }
 }
@@ -120,7 +129,7 @@ pub(crate) fn placed(cells: &mut Vec<Tag>, head: Head) -> Head
 fn size(heads: &[Head], behind: usize) -> usize {
     let mut rows: usize = behind;
     for head in heads {
-        rows = rows.saturating_add(head.room as usize);
+        rows = rows.saturating_add(head.room);
     }
     rows.saturating_add(rows.saturating_add(heads.len()) / 2)
 }

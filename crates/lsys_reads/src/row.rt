@@ -16,6 +16,7 @@ pub(crate) const FEW: usize = 256;
 /// Puts the tag among the first `len`, where `owed` are still to come, and answers how many they are now.
 ///
 /// While more than a few are owed they needn't rise.
+#[inline]
 pub(crate) fn put(cells: &mut [Tag], len: usize, owed: usize, tag: Tag) -> usize
     requires room { len + owed ≤ length cells.old }
     requires some { 0 < owed }
@@ -36,6 +37,7 @@ pub(crate) fn put(cells: &mut [Tag], len: usize, owed: usize, tag: Tag) -> usize
 }
 
 /// Puts the tag in where it belongs.
+#[inline]
 fn insert(cells: &mut [Tag], len: usize, tag: Tag) -> usize
     requires room { len < length cells.old }
     requires rising { IsRising (take len cells.old) }
@@ -48,6 +50,20 @@ fn insert(cells: &mut [Tag], len: usize, tag: Tag) -> usize
         cells[len] = tag;
         return len + 1;
     }
+    insert_within(cells, len, tag)
+}
+
+/// Puts the tag in where it belongs, which may be before others.
+#[inline(never)]
+fn insert_within(cells: &mut [Tag], len: usize, tag: Tag) -> usize
+    requires some { 0 < len }
+    requires room { len < length cells.old }
+    requires rising { IsRising (take len cells.old) }
+    ensures tags { (q : ℕ) → has (take result cells.new) q ≡ (tag == q || has (take len cells.old) q) }
+    ensures rising { IsRising (take result cells.new) }
+    ensures most { result ≤ len + 1 }
+    ensures cells { length cells.new ≡ length cells.old }
+{
     if tag < cells[0] {
         return put_at(cells, len, 0, tag);
     }

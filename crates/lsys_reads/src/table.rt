@@ -2,8 +2,8 @@
 //!
 //! All rows stand in one vector of cells. A row is placed when it gets tags that its cells have no room for: at the end,
 //! with as many cells as it has tags and is owed.
-ghost use Rattle.std.specs.Prelude.{◌≡◌, ◌<◌, ◌≤◌, ◌+◌, List, [], length, OnOk, OnErr, IfNone, IfSome, true};
-ghost use Rattle.lsys_reads.specs.Rows.{Row, tag_row, has, few, IsRising, SameRows, Cuts, SweepsRow, PutsTag, Reserves, RowShrinks};
+ghost use Rattle.std.specs.Prelude.{◌≡◌, ◌<◌, ◌≤◌, ◌+◌, List, [], length, OnOk, OnErr};
+ghost use Rattle.lsys_reads.specs.Rows.{Row, tag_row, few, IsRising, SameRows, SweepsRow, PutsTag, Reserves};
 
 use crate::head::{Head, kept_for};
 use crate::pack::{placed, provide};
@@ -49,6 +49,7 @@ impl Table {
     }
 
     /// Makes the table reach to the tag.
+    #[inline]
     fn reach(&mut self, tag: Tag) -> Result<(), AllocError>
         ensures rows { SameRows self.old self.new }
         ensures reach { OnOk result (tag < length self.new) }
@@ -61,6 +62,7 @@ impl Table {
     }
 
     /// Keeps room for one tag more in the row of this tag.
+    #[inline]
     pub(crate) fn reserve(&mut self, tag: Tag) -> Result<(), AllocError>
         ensures ok { OnOk result (Reserves self.old self.new tag) }
         ensures err { OnErr result (SameRows self.old self.new) }
@@ -70,6 +72,7 @@ impl Table {
     }
 
     /// Keeps room for one tag more in a row that is there.
+    #[inline]
     fn owe(&mut self, tag: Tag) -> Result<(), AllocError>
         requires { tag < length self.old }
         ensures ok { OnOk result (Reserves self.old self.new tag) }
@@ -77,8 +80,8 @@ impl Table {
     {
         let place = tag.0 as usize;
         let head = self.heads[place];
-        let due = head.due() + 1;
-        let kept = self.kept - head.wanted() + kept_for(due, head.room as usize);
+        let due = head.len + head.owed;
+        let kept = self.kept - kept_for(due, head.room) + kept_for(due + 1, head.room);
         provide(self.alloc, &mut self.heads, &mut self.cells, kept)?;
         self.heads[place].owed += 1;
         self.kept = kept;
@@ -99,6 +102,7 @@ impl Table {
     }
 
     /// Puts `other` into the row of this tag. With the last few that are owed the row rises. It takes no memory.
+    #[inline]
     pub(crate) fn put(&mut self, tag: Tag, other: Tag)
         requires owed { 0 < (tag_row self.old tag).owed }
         requires rising { (tag_row self.old tag).owed ≤ few → IsRising (tag_row self.old tag).tags }
@@ -107,13 +111,13 @@ impl Table {
     {
         let place = tag.0 as usize;
         let was = self.heads[place];
-        let head = placed(&mut self.cells, was);
-        let start = head.start as usize;
-        let cells = &mut self.cells[start..start + head.room as usize];
-        let len = row::put(cells, head.len as usize, head.owed as usize, other) as u32;
+        let room = was.wanted();
+        let head = placed(&mut self.cells, was, room);
+        let cells = &mut self.cells[head.start..head.start + head.room];
+        let len = row::put(cells, head.len, head.owed, other);
         let owed = head.owed - 1;
         self.heads[place] = Head { len, owed, ..head };
-        self.kept -= was.wanted();
+        self.kept -= room;
     }
 
     /// Takes `other` out of the row of this tag, if it is there, and maybe others of `gone`.
@@ -126,38 +130,16 @@ impl Table {
             return;
         }
         let head = self.heads[place];
-        let start = head.start as usize;
-        let cells = &mut self.cells[start..start + head.room as usize];
-        let len = row::sweep(cells, head.len as usize, other, gone) as u32;
+        let cells = &mut self.cells[head.start..head.start + head.room];
+        let len = row::sweep(cells, head.len, other, gone);
         let less = Head { len, ..head };
         self.heads[place] = less.trimmed();
         self.kept = self.kept - head.wanted() + less.wanted();
     }
 
-    /// Takes the last tag out of the row of this tag.
-    pub(crate) fn pop(&mut self, tag: Tag) -> Option<Tag>
-        requires rising { IsRising (tag_row self.old tag).tags }
-        ensures none { IfNone result ((tag_row self.old tag).tags ≡ []) }
-        ensures same { IfNone result (self.new ≡ self.old) }
-        ensures some { IfSome result (λ other. has (tag_row self.old tag).tags other ≡ true) }
-        ensures tags { IfSome result (λ other. Cuts self.old self.new tag other) }
-        ensures shorter { IfSome result (λ other. RowShrinks tag self.old self.new) }
-        ensures rising { IsRising (tag_row self.new tag).tags }
-    {
-        let place = tag.0 as usize;
-        if self.heads.len() <= place {
-            return None;
-        }
-        let head = self.heads[place];
-        if head.len == 0 {
-            return None;
-        }
-        let len = head.len - 1;
-        let other = self.cells[head.start as usize + len as usize];
-        let less = Head { len, ..head };
-        self.heads[place] = less.trimmed();
-        self.kept = self.kept - head.wanted() + less.wanted();
-        Some(other)
+    /// Whether any row has cells: where none has, no tag has a row.
+    pub(crate) fn has_cells(&self) -> bool {
+        !self.cells.is_empty()
     }
 
     /// The row of this tag.
@@ -165,10 +147,7 @@ impl Table {
         ensures { result.now ≡ (tag_row self.now tag).tags }
     {
         match self.heads.get(tag.0 as usize) {
-            Some(head) => {
-                let start = head.start as usize;
-                &self.cells[start..start + head.len as usize]
-            }
+            Some(head) => &self.cells[head.start..head.start + head.len],
             None => &[],
         }
     }

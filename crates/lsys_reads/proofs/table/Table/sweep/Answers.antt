@@ -47,7 +47,7 @@ turns c =
     turns_less t.cells.items (cells_of c) t.heads.items c.tag.inside.0 t.kept c.wanted.result c.wanted-2.result (vec_capacity t.cells) h (less h c.sweep-len.result) c.trimmed.result
     c.self.invariant (search rules) (is_head c) refl refl c.sweep-len.ensures.most (omega arith) (written c).size
     (others_written t.cells.items (cells_of c) c.sweep-len.new.cells t.heads.items c.tag.inside.0 h c.self.invariant.laid (is_head c) (many c) (written c))
-    c.trimmed.ensures c.wanted.ensures.value c.wanted-2.ensures.value
+    c.trimmed.ensures c.wanted.ensures c.wanted-2.ensures
 
 pub invariant_of-self : goal.invariant_of-self
 invariant_of-self c = (turns c).sound
