@@ -1,10 +1,10 @@
--- Own lists in the order of their tables' words: where one goes, and which is found.
+-- Own lists in the order of their tables' words: where one goes, and what is left without one.
 use Rattle.std.proofs.Common.{◌≡◌, ℕ, suc, ◌+◌, ◌-◌, ◌≤◌, Bool, true, false, not, ◌&&◌, ◌||◌, ◌==◌, cond, nat_lt, List, [], ◌∷◌, ◌++◌, Option, Some, None, map, length, insert, remove, position, unwrap_or, bytes_eq, refl, ap, subst, sym, ◌∙◌, arith, true≢false, if◌then◌else◌}
 use Rattle.std.proofs.lemmas.Bool.{eqb-true, ltb-false, ltb-true}
 use Rattle.std.proofs.lemmas.List.{length-map}
 use Rattle.std.proofs.lemmas.Cmp.{nat_list_cmp_total}
 use Rattle.std.specs.List.{position_or_len}
-use Rattle.std.specs.Map.{keys_of, lookup, remove_entry}
+use Rattle.std.specs.Map.{keys_of, remove_entry}
 use Rattle.std.specs.Option.{option_map_or}
 use Rattle.std.specs.Ordering.{nat_cmp, is_lt, is_eq, ordering_then, ordering_reverse}
 use Rattle.std.specs.Cmp.Lexicographic.{slice_cmp}
@@ -12,11 +12,8 @@ use Rattle.std.specs.declared.cmp.Ordering.{Ordering}
 use Rattle.std.specs.declared.cmp.Ordering.TheVariants.{Less, Equal, Greater}
 use Rattle.indexmap.specs.IndexMap.{insert_entry, move_index, index_before}
 use Rattle.indexmap.proofs.MoveLemmas.{push_moved}
-use Rattle.lsys_syntax.specs.Strings.{ModuleName}
-use Rattle.lsys_syntax.specs.Commands.{to_ignore}
 use Rattle.lsys_spec.specs.Systems as spec
 use Rattle.lsys_spec.specs.Systems.{comes_before, in_order, Each, Apart}
-use Rattle.lsys_spec.specs.Bodies.{Filter, filter_in}
 use Rattle.lsys_spec.specs.Edits.{put_own, without_own}
 use Rattle.lsys_laws.proofs.Aparts.{apart_dropped, bytes_eq_true, bytes_eq_sym}
 use Rattle.lsys_laws.proofs.Orders.{Unordered, ordered_put_own, own_dropped}
@@ -256,24 +253,8 @@ removed_kept es new t made own ordered =
       subst (Apart Unordered) (sym values) (apart_dropped Unordered (values_of es) (without_own t (values_of es)) (own_dropped t (values_of es)) ordered),
     )
 
--- 4. what is found
+-- 4. the tables that have one
 
 pub keys_tables : (es : List Entry) → HaveOwnLabels (λ q. q.table) es → keys_of es ≡ map (λ q. q.table) (values_of es)
 keys_tables [] own = refl
 keys_tables (e ∷ es) own = ap (λ k. k ∷ keys_of es) (sym own.0) ∙ ap (λ l. e.1.table ∷ l) (keys_tables es own.1)
-
--- the filter of an own list, or of the ignored names where there is none
-abbrev pub filter_by : Option spec.Own → List ModuleName → Filter
-filter_by None ignored = record { kind = to_ignore; names = ignored }
-filter_by (Some o) ignored = record { kind = o.kind; names = o.names }
-
-pub filter_found : (es : List Entry) (t : List ℕ) (ignored : List ModuleName) → HaveOwnLabels (λ q. q.table) es → filter_by (lookup (bytes_eq t) es) ignored ≡ filter_in t (values_of es) ignored
-filter_found [] t ignored own = refl
-filter_found (e ∷ es) t ignored own = by (bytes_eq t e.0) (bytes_eq e.1.table t) (bytes_eq_sym t e.0 ∙ ap (λ u. bytes_eq u t) (sym own.0)) (filter_found es t ignored own.1)
-  where
-    by : (b c : Bool) → b ≡ c → filter_by (lookup (bytes_eq t) es) ignored ≡ filter_in t (values_of es) ignored
-        → filter_by (cond b (Some e.1) (lookup (bytes_eq t) es)) ignored ≡ (if c then record { kind = e.1.kind; names = e.1.names } else filter_in t (values_of es) ignored)
-    by true true h rest = refl
-    by false false h rest = rest
-    by true false h rest = cc
-    by false true h rest = cc

@@ -2,7 +2,7 @@
 ghost use Rattle.std.specs.Prelude.{◌≡◌, IfOk, IsTrue, OnOk, length};
 ghost use Rattle.lsys_text.specs.Packed.{packed};
 ghost use Rattle.lsys_text.specs.Texts.{IsNameBytes};
-ghost use Rattle.lsys_rules.specs.Groups.{AreOfOne, AreRegrouped, HasGroup, IsGroup, found_rules, is_of, is_of_either, is_some_of, rules_at, rules_or_none};
+ghost use Rattle.lsys_rules.specs.Groups.{AreOfOne, AreRegrouped, HasGroup, IsGroup, found_rules, is_of, is_of_either, is_some_of, rules_at, rules_or_none, same_key};
 
 use crate::shared_group::SharedGroup;
 use lsys_bodies::Rule;
@@ -17,6 +17,9 @@ pub(crate) struct GroupKey {
     pub name: u64,
     pub arity: usize,
 }
+
+/// The most groups that are looked through one by one.
+const FEW_GROUPS: usize = 16;
 
 /// The rules of each group, in order.
 pub(crate) type Groups = HashMap<GroupKey, SharedGroup>;
@@ -148,9 +151,25 @@ fn set_group(
     Ok(())
 }
 
-// The rules of a group; none where there is no rule for it.
+// The rules of a group; none where there is no rule for it. Few groups are looked through: to hash a key takes longer than
+// to compare it with so many.
 pub(crate) fn rules_at(groups: &Groups, key: GroupKey) -> Option<&SharedGroup>
     ensures { found_rules result ≡ rules_at groups.now key }
 {
-    groups.get(&key)
+    if groups.len() > FEW_GROUPS {
+        return groups.get(&key);
+    }
+    for (other, group) in groups.iter() {
+        if is_same(key, other) {
+            return Some(group);
+        }
+    }
+    None
+}
+
+// Whether two keys are equal. Most that aren't differ in their names.
+fn is_same(key: GroupKey, other: &GroupKey) -> bool
+    ensures { result ≡ same_key key other.now }
+{
+    key.name == other.name && key.arity == other.arity && key.table == other.table
 }

@@ -110,17 +110,19 @@ impl OwnTable {
         self.lists.by_table.keys().as_slice()
     }
 
-    /// What contexts pass over on a level of this table: by its own list, or by the ignored names where it has none. A look-up
-    /// costs the same however many lists there are.
+    /// What contexts pass over on a level of this table: by its own list, or by the ignored names where it has none. The lists
+    /// are looked through: there are no more than tables, few, and mostly none.
     pub fn filter<'a>(&'a self, table: Word, ignored: &'a [Name]) -> Filter<'a>
         ensures { filter_of result ≡ filter_in table self.now (map module_name ignored.now) }
     {
-        match self.lists.by_table.get(&table) {
-            Some(list) => list.filter(),
-            None => Filter {
-                kind: ListKind::Ignore,
-                names: ignored,
-            },
+        for list in self.lists() {
+            if list.table() == table {
+                return list.filter();
+            }
+        }
+        Filter {
+            kind: ListKind::Ignore,
+            names: ignored,
         }
     }
 }

@@ -229,11 +229,14 @@ impl System {
         self.parts.rules.group(self.table(level), name, arity)
     }
 
-    // The table of a level.
+    // The table of a level. Mostly the schedule has one word, and then nothing is divided.
     fn table(&self, level: u32) -> Word
         ensures { result ≡ table_at self.now.schedule level }
     {
         let schedule = &self.parts.schedule;
+        if schedule.len() == 1 {
+            return schedule[0];
+        }
         schedule[level as usize % schedule.len()]
     }
 

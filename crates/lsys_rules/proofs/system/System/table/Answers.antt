@@ -9,8 +9,8 @@ pub returns : goal.returns
 returns c =
     let level = c.args.level in
     let ws = c.deref.result.now.schedule.items in
-    let count : c.len.result ≡ length ws = search rules in
+    let count : c.len-2.result ≡ length ws = search rules in
     let some : 0 < length ws = subst (λ (p : SystemParts). 0 < length p.schedule.items) (sym c.deref.ensures) c.self.invariant.0.some_word in
-    let within : level % c.len.result < length ws = rw count (mod-lt level some) in
-    word_there ws (level % c.len.result) c.index.result.now within c.index.ensures ∙ ap (λ n. word_at ws (level % n)) count
+    let within : level % c.len-2.result < length ws = rw count (mod-lt level some) in
+    word_there ws (level % c.len-2.result) c.index-2.result.now within c.index-2.ensures ∙ ap (λ n. word_at ws (level % n)) count
     ∙ ap (λ (p : SystemParts). table_at p.schedule.items level) c.deref.ensures ∙ ap (λ s. table_at s.schedule level) c.self.view_is
