@@ -5,3 +5,4 @@ pub mod Means
 pub mod Named
 pub mod Nests
 pub mod Among
+pub mod Constants

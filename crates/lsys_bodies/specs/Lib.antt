@@ -4,3 +4,4 @@ pub mod Building
 pub mod Filters
 pub mod Same
 pub mod BuiltParts
+pub mod Constants

@@ -1,12 +1,14 @@
 //! The parts of a body, as the definitions have them of the rule that is written.
-ghost use Rattle.std.specs.Prelude.{◌≡◌, map};
+ghost use Rattle.std.specs.Prelude.{◌≡◌, map, IfSome};
 ghost use Rattle.std.specs.Option.{option_map};
 ghost use Rattle.lsys_spec.specs.Bodies.{innermost, body_of};
 ghost use Rattle.lsys_syntax.specs.Smalls.{HaveFewParams};
+ghost use Rattle.lsys_bodies.specs.Constants.{constant_of, IsConstant};
 ghost use Rattle.lsys_bodies.specs.Views.{as_pattern, nest, template_symbol, template_of, as_rule};
 
 use crate::body::{Item, Pattern, SharedBody, Template};
 use lsys_expr::Expr;
+use lsys_module::SymbolList;
 
 impl Pattern {
     /// How many parameters a module has that fits: at most 8 where the pattern is one of a body.
@@ -59,5 +61,14 @@ impl SharedBody {
         ensures few { HaveFewParams (map template_symbol result.now) }
     {
         &self.get().successor
+    }
+
+    /// The symbols of the successor, where none of its templates has parameters: what it becomes, whatever the values of
+    /// the rule's formals are. They stand in the body once, and copies of it share them.
+    pub fn constant(&self) -> Option<&SymbolList>
+        ensures symbols { option_map (λ s. s.now) result ≡ constant_of self.now.successor.items }
+        ensures filled { IfSome result (λ s. IsConstant self.now s.now) }
+    {
+        self.parts.constant.as_ref()
     }
 }

@@ -2,7 +2,9 @@
 ghost use Rattle.std.specs.Prelude.{◌≡◌, IfOk};
 ghost use Rattle.lsys_bodies.specs.Built.{IsBuilt};
 
+use crate::constant::constant_of;
 use lsys_expr::Expr;
+use lsys_module::SymbolList;
 use lsys_text::Name;
 use std::alloc::{AllocError, Global};
 use std::marker::Model;
@@ -58,11 +60,18 @@ pub struct Body {
     pub successor: Vec<Template>,
 }
 
+/// What copies of a body share: the body, and the symbols of its successor, where that has no parameters.
+#[derive(Drop)]
+pub(crate) struct BodyParts {
+    pub(crate) body: Body,
+    pub(crate) constant: Option<SymbolList>,
+}
+
 /// A body that is shared by copies, and seen by contracts as the body alone. The trees of its expressions are those of
-/// what is spelled, and no limit of a rule is passed.
+/// what is spelled, and no limit of a rule is passed. A successor without parameters is worked out once, with the body.
 #[derive(Drop)]
 pub struct SharedBody {
-    body: Rc<Body>,
+    pub(crate) parts: Rc<BodyParts>,
 }
 
 impl Model for SharedBody {
@@ -74,11 +83,14 @@ impl Model for SharedBody {
 
     ghost coded = { Prim.hlevel (codes, expression_code) };
 
+    ghost use Rattle.std.specs.Prelude.{◌≡◌};
     ghost use Rattle.lsys_bodies.specs.Built.{IsBuilt};
+    ghost use Rattle.lsys_bodies.specs.Constants.{constant_of};
 
-    ghost view = { λ a. a.body.value };
+    ghost view = { λ a. a.parts.value.body };
 
-    ghost invariant = { λ a. IsBuilt a.body.value };
+    ghost invariant = { λ a. IsBuilt a.parts.value.body
+        × (a.parts.value.constant ≡ constant_of a.parts.value.body.successor.items) };
 }
 
 impl SharedBody {
@@ -87,8 +99,9 @@ impl SharedBody {
         requires { IsBuilt body }
         ensures { IfOk result (λ s. s ≡ body) }
     {
+        let constant = constant_of(alloc, &body.successor)?;
         Ok(SharedBody {
-            body: Rc::new(alloc, body)?,
+            parts: Rc::new(alloc, BodyParts { body, constant })?,
         })
     }
 
@@ -97,7 +110,7 @@ impl SharedBody {
         ensures body { result.now ≡ self.now }
         ensures built { IsBuilt self.now }
     {
-        &self.body
+        &self.parts.body
     }
 }
 
@@ -106,7 +119,7 @@ impl Clone for SharedBody {
 
     fn clone(&self) -> Result<SharedBody, AllocError> {
         Ok(SharedBody {
-            body: self.body.clone()?,
+            parts: self.parts.clone()?,
         })
     }
 }

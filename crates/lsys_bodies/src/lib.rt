@@ -4,6 +4,7 @@
 mod access;
 mod body;
 mod building;
+mod constant;
 mod filter;
 mod patterns;
 mod rule;

@@ -19,7 +19,6 @@ use Rattle.lsys_spec.proofs.GroupTells.{told_choice}
 use Rattle.lsys_spec.proofs.Names.{NamedBody, same_all_true, same_body_true}
 use Rattle.lsys_spec.proofs.Tests.{both}
 use Rattle.lsys_spec.proofs.WellNamed.{group_named}
-use Rattle.lsys_bodies.specs.Filters.{filter_of}
 use Rattle.lsys_level.specs.Spots.{Spotted, Module, level_by}
 use Rattle.lsys_rewrite.specs.Faults.{fault_of}
 use Rattle.lsys_rewrite.specs.declared.refusal.FaultKind.{FaultKind}
@@ -31,7 +30,7 @@ use Rattle.lsys_match.specs.declared.refusal.AskRefusal.{AskRefusal}
 use Rattle.lsys_match.specs.declared.refusal.AskRefusal.TheVariants.{Memory, Fault}
 use Rattle.lsys_match.specs.declared.told.Reply.{Reply}
 use Rattle.lsys_match.specs.Answered.{CountsEntries, IsAnswerTo, IsSoundAnswer, place_chosen, trace_told}
-use Rattle.lsys_match.specs.Asking.{IsPosedAt, posed_by, site_at, site_of, told_for}
+use Rattle.lsys_match.specs.Asking.{IsPosedAt, posed_by, site_at, told_for}
 use Rattle.lsys_match.specs.Asks.{ByDefinition, IsAnswer, IsAnswered, IsKept, IsMadeIfAny, IsNamedAt, IsNew, IsTraceFor, by_definition}
 use Rattle.lsys_match.specs.Kept.{Kept}
 use Rattle.lsys_match.specs.Sites.{asking_at}
@@ -149,20 +148,20 @@ counts_err T U n old new x y r e i h = subst (CountsEntries n old new) (sym i) (
     by Memory h = h
     by (Fault k) h = h
 
-module _ (q : CodePosed) (s : System) (t : ℕ) (row row' : List Spotted) (p : ℕ) (e : row' ≡ row) (sys : filter_of q.filter ≡ filter s t) (posed : IsPosedAt s t row' p (posed_by q)) where
+module _ (q : CodePosed) (s : System) (t : ℕ) (row row' : List Spotted) (p : ℕ) (e : row' ≡ row) (posed : IsPosedAt s t row' p (posed_by q)) where
   abbrev d : Posed
   d = posed_by q
 
   abbrev heard : (ℕ → List ℕ) → Told Choice
-  heard naming = told_for naming (site_of q row' p) d
+  heard naming = told_for naming (site_at s t row' p d.own) d
 
   posed_here : IsPosedAt s t row p d
   posed_here = subst (λ row. IsPosedAt s t row p d) e posed
 
   heard_is : (naming : ℕ → List ℕ) → heard naming ≡ told_for naming (site_at s t row p d.own) d
-  heard_is naming = λ i. told_for naming (record { row = e i; place = p; own = d.own; filter = sys i }) d
+  heard_is naming = λ i. told_for naming (record { row = e i; place = p; own = d.own; filter = filter s t }) d
 
-  pub few_read : (r : Reply) → IsAnswerTo heard (reply_answer d r) → length r.trace ≤ most_entries + 1
+  pub few_read : (r : Reply) → IsAnswerTo heard (reply_answer q r) → length r.trace ≤ most_entries + 1
   few_read r h =
       let naming : ℕ → List ℕ = (λ t. []) in
       let n = length-take (most_entries + 1) (heard naming).entries in
@@ -183,11 +182,11 @@ module _ (q : CodePosed) (s : System) (t : ℕ) (row row' : List Spotted) (p : �
     pub counted : (T : Type 0) (old before new : ℕ) (r : Result T AskRefusal) → old ≡ before → CountsEntries (length (trace_told (heard naming))) old new r → CountsEntries (length meaning.question.trace) before new r
     counted T old before new r i h = subst (λ old. CountsEntries (length meaning.question.trace) old new r) i (subst (λ n. CountsEntries n old new r) (ap (λ (u : Told Choice). length (trace_told u)) (heard_is naming) ∙ count_here s t row p d posed_here naming tag m w) h)
 
-    failed_by : (L : Type 0) (store : Store) (old : Option Kept) (was : Option (List Noted)) (r : AskRefusal) → IsTelling heard d was (Err r) → IsAnswered {L = L} naming meaning store old (Err r)
+    failed_by : (L : Type 0) (store : Store) (old : Option Kept) (was : Option (List Noted)) (r : AskRefusal) → IsTelling heard q was (Err r) → IsAnswered {L = L} naming meaning store old (Err r)
     failed_by L store old was Memory h = tt
     failed_by L store old was (Fault k) h = fault_here s t row p d posed_here naming tag m w k (ap (λ (u : Told Choice). successor_by d.bodies d.own u.answer) (sym (heard_is naming)) ∙ h naming)
 
-    pub failed : (L : Type 0) (store : Store) (old : Option Kept) (was : Option (List Noted)) (r : AskRefusal) (x : Result (Asked L) AskRefusal) → x ≡ Err r → IsTelling heard d was (Err r) → IsAnswered naming meaning store old x
+    pub failed : (L : Type 0) (store : Store) (old : Option Kept) (was : Option (List Noted)) (r : AskRefusal) (x : Result (Asked L) AskRefusal) → x ≡ Err r → IsTelling heard q was (Err r) → IsAnswered naming meaning store old x
     failed L store old was r x e h = subst (IsAnswered naming meaning store old) (sym e) (failed_by L store old was r h)
 
     answered : (a : TagAnswer) → a.question.posed ≡ d → IsAnswerTo (λ naming. told_for naming (site_at s t row p d.own) d) a → IsAnswer naming meaning a
@@ -196,8 +195,8 @@ module _ (q : CodePosed) (s : System) (t : ℕ) (row row' : List Spotted) (p : �
         IsAnswerTo (λ naming. told_for naming (site_at s t row p d.own) d) b → IsAnswer naming meaning b) in
         subst G (sym e) (answer_here s t row p d posed_here naming tag m w a.question.trace a.chosen a.successor)
 
-    pub new_answer : (r : Reply) (before after : Store) (a : Kept) → IsAnswerTo heard (reply_answer d r) → IsKept before after (reply_answer d r) a → IsAnswer naming meaning (answer_in after a)
-    new_answer r before after a h k = subst (IsAnswer naming meaning) (sym k.answer) (answered (reply_answer d r) refl (answers (reply_answer d r) h))
+    pub new_answer : (r : Reply) (before after : Store) (a : Kept) → IsAnswerTo heard (reply_answer q r) → IsKept before after (reply_answer q r) a → IsAnswer naming meaning (answer_in after a)
+    new_answer r before after a h k = subst (IsAnswer naming meaning) (sym k.answer) (answered (reply_answer q r) refl (answers (reply_answer q r) h))
 
     pub old_answer : (store : Store) (old : Option Kept) (was : Option (List Noted)) → WellSpelled s → IsMadeIfAny store old → IsTraceFor store old d was → (read : List Noted) → was ≡ Some read → ((naming : ℕ → List ℕ) → entries_by naming read ≡ trace_told (heard naming))
         → IsSomeAnd old (λ a. IsAnswer naming meaning (answer_in store a))
@@ -209,19 +208,19 @@ module _ (q : CodePosed) (s : System) (t : ℕ) (row row' : List Spotted) (p : �
         let f : b.question.posed ≡ d = posed_same b.question.posed d (posed_named made.sound.system made.sound.level made.sound.row made.sound.place b.question.posed made.sound.spelled made.sound.answer.posed) (posed_named s t row p d v posed_here) k.1 in
         answered b f (answer_again s t row p d read b made.sound f (k.0 ∙ same_Some was read i) (λ naming. h naming ∙ ap trace_told (heard_is naming)))
 
-  pub new_one : (v : WellSpelled s) (r : Reply) (before after : Store) (old : Option Kept) (was : Option (List Noted)) (a : Kept) → IsTraceFor before old d was → (was ≡ Some r.trace → ⊥) → IsAnswerTo heard (reply_answer d r) → IsKept before after (reply_answer d r) a
+  pub new_one : (v : WellSpelled s) (r : Reply) (before after : Store) (old : Option Kept) (was : Option (List Noted)) (a : Kept) → IsTraceFor before old d was → (was ≡ Some r.trace → ⊥) → IsAnswerTo heard (reply_answer q r) → IsKept before after (reply_answer q r) a
       → IsNew before after old a
   new_one v r before after old was a f n h k = record {
     made = record {
       live = k.live;
       params = k.params;
-      sound = subst IsSoundAnswer (sym k.answer) (record { system = s; spelled = v; level = t; row = row; place = p; answer = record { posed = posed_here; told = answers (reply_answer d r) h } });
+      sound = subst IsSoundAnswer (sym k.answer) (record { system = s; spelled = v; level = t; row = row; place = p; answer = record { posed = posed_here; told = answers (reply_answer q r) h } });
     };
     other = λ o i j. differs o was (subst (λ o. IsTraceFor before o d was) i f) n (j ∙ ap (λ (a : TagAnswer). a.question) k.answer);
     fresh = k.fresh;
     others = k.others;
   }
     where
-      differs : (o : Kept) (was : Option (List Noted)) → IsTraceFor before (Some o) d was → (was ≡ Some r.trace → ⊥) → question_in before o ≡ (reply_answer d r).question → ⊥
+      differs : (o : Kept) (was : Option (List Noted)) → IsTraceFor before (Some o) d was → (was ≡ Some r.trace → ⊥) → question_in before o ≡ (reply_answer q r).question → ⊥
       differs o None f n j = f (same_posed (posed_in before o) d (ap (λ (q : TagQuestion). q.posed) j))
       differs o (Some was) f n j = n (ap (λ x. Some x) (sym f.0 ∙ ap (λ (q : TagQuestion). q.trace) j))

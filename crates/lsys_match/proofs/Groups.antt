@@ -1,5 +1,6 @@
 -- The rules of a group.
-use Rattle.std.proofs.Common.{ap₂, eqb, ◌&&◌, is_some, zero, suc, ◌≡◌, ℕ, Bool, true, false, List, [], ◌∷◌, ◌+◌, ◌≤◌, ◌<◌, length, map, slice_get, drop, Option, Some, None, arith, ap, sym, ◌∙◌, refl, if◌then◌else◌}
+use Rattle.std.proofs.Common.{Bor, ap₂, eqb, ◌&&◌, is_some, zero, suc, ◌≡◌, ℕ, Bool, true, false, List, [], ◌∷◌, ◌+◌, ◌≤◌, ◌<◌, length, map, slice_get, drop, Option, Some, None, arith, ap, sym, ◌∙◌, refl, if◌then◌else◌}
+use Rattle.lsys_bodies.specs.declared.body.Body.{Body as CodeBody}
 use Rattle.lsys_bodies.specs.declared.rule.Rule.{Rule}
 use Rattle.lsys_match.specs.Groups.{bodies_of, meant, rules_of}
 use Rattle.lsys_spec.specs.Bodies.{Body}
@@ -81,6 +82,11 @@ meant_at rs i o h = slice_get-map meant (bodies_of rs) i ∙ ap (option_map mean
     twice : (o : Option Rule) → option_map meant (option_map (λ r. r.body) o) ≡ option_map (λ r. meant r.body) o
     twice None = refl
     twice (Some r) = refl
+
+-- the meaning of a body that is lent
+pub meant_lent : (o : Option (Bor CodeBody)) → option_map meant (option_map (λ b. b.now) o) ≡ option_map (λ b. meant b.now) o
+meant_lent None = refl
+meant_lent (Some b) = refl
 
 pub length_bodies : (rs : List Rule) → length (rules_of (bodies_of rs)) ≡ length rs
 length_bodies rs = length-map (bodies_of rs) meant ∙ length-map rs (λ r. r.body)

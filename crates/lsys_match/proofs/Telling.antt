@@ -20,11 +20,13 @@ use Rattle.lsys_match.specs.declared.refusal.AskRefusal.TheVariants.{Fault, Memo
 use Rattle.lsys_match.specs.Choices.{IsTold, IsFrontOf}
 use Rattle.lsys_match.specs.declared.told.Told.TheVariants.{Other}
 use Rattle.lsys_match.specs.declared.told.Reply.{Reply}
-use Rattle.lsys_match.specs.TagQuestions.{Posed}
+use Rattle.lsys_match.specs.declared.posed.Posed.{Posed as CodePosed}
+use Rattle.lsys_match.specs.Asking.{posed_by}
+use Rattle.lsys_match.specs.Constants.{symbols_by}
 use Rattle.lsys_match.specs.Refusals.{refusal_by, fill_refusal_by}
 use Rattle.lsys_match.specs.Tries.{entries_by}
 use Rattle.lsys_match.specs.Answered.{CountsEntries, place_chosen, trace_told}
-use Rattle.lsys_match.specs.Telling.{IsSuccessor, IsTelling, choice_at}
+use Rattle.lsys_match.specs.Telling.{IsSuccessor, IsSuccessorKept, IsSuccessorOf, IsTelling, choice_at}
 
 -- 1. successors
 
@@ -84,18 +86,18 @@ place_at : (chosen : Option ℕ) (values : List ℤ) → place_chosen (choice_at
 place_at None values = refl
 place_at (Some g) values = refl
 
-module _ (told : (ℕ → List ℕ) → Told choice.Choice) (d : Posed) (old : Option (List Noted)) (chosen : Option ℕ) (values : List ℤ) (answer : (naming : ℕ → List ℕ) → (told naming).answer ≡ choice_at chosen values) where
-  pub telling_fails : (r : AskRefusal) → IsSuccessor d.bodies d.own chosen values (Err r) → IsTelling told d old (Err r)
+module _ (told : (ℕ → List ℕ) → Told choice.Choice) (q : CodePosed) (old : Option (List Noted)) (chosen : Option ℕ) (values : List ℤ) (answer : (naming : ℕ → List ℕ) → (told naming).answer ≡ choice_at chosen values) where
+  pub telling_fails : (r : AskRefusal) → IsSuccessorOf q chosen values (Err r) → IsTelling told q old (Err r)
   telling_fails Memory h = tt
-  telling_fails (Fault k) h = λ naming. ap (successor_by d.bodies d.own) (answer naming) ∙ h
+  telling_fails (Fault k) h = λ naming. ap (successor_by (posed_by q).bodies (posed_by q).own) (answer naming) ∙ h
 
   pub telling_other : (read : List Noted) (r : Reply) → ((naming : ℕ → List ℕ) → entries_by naming read ≡ trace_told (told naming)) → (old ≡ Some read → ⊥) → r.trace ≡ read → r.chosen ≡ chosen
-      → IsSuccessor d.bodies d.own chosen values (Ok r.successor) → IsTelling told d old (Ok (Other r))
+      → IsSuccessorKept q chosen values (Ok r.symbols) → IsTelling told q old (Ok (Other r))
   telling_other read r h n e i s = (
     λ k. n (k ∙ ap (λ x. Some x) e),
     record {
       trace = λ naming. ap (entries_by naming) e ∙ h naming;
       chosen = λ naming. ap place_chosen (answer naming) ∙ place_at chosen values ∙ sym i;
-      successor = λ naming. ap (successor_by d.bodies d.own) (answer naming) ∙ s;
+      successor = λ naming. ap (successor_by (posed_by q).bodies (posed_by q).own) (answer naming) ∙ s ∙ ap (λ g. Ok (string_of (symbols_by q.group g r.symbols))) (sym i);
     },
   )

@@ -13,7 +13,7 @@ use Rattle.lsys_match.specs.declared.told.OldTrace.{OldTrace}
 use Rattle.lsys_match.specs.declared.told.Told.{Told}
 use Rattle.lsys_match.specs.Kept.{Kept}
 use Rattle.lsys_match.specs.TagQuestions.{Posed}
-use Rattle.lsys_match.specs.Asking.{AskedLevel, HasQuestion, IsPosedAt, site_of}
+use Rattle.lsys_match.specs.Asking.{AskedLevel, HasQuestion, IsPosedAt, posed_by, site_at}
 use Rattle.lsys_match.specs.Sites.{Site}
 use Rattle.lsys_match.specs.Answered.{CountsEntries}
 use Rattle.lsys_match.specs.Asks.{IsAnswered, IsNamedAt, KeepsStore, asked_if_any, by_definition, kept_lent, news}
@@ -46,21 +46,22 @@ key_at W view spot =
 
 -- 2. what is read and chosen
 
--- what is posed, at a spot of its level
-abbrev pub site_seen : {V P : Type 0} → CodePosed → LevelViewOf V P → V → P → Site
-site_seen q W view spot =
+-- what is posed, at a spot of the level that is asked about
+abbrev pub site_seen : {V P : Type 0} → CodePosed → AskedLevel → LevelViewOf V P → V → P → Site
+site_seen q k W view spot =
     let x = spots_at (W.levels view) (W.level_of view spot) in
-    site_of q x (W.place_of view spot)
+    site_at k.system k.level x (W.place_of view spot) (posed_by q).own
 
 -- what is told of what is posed, at a spot
-abbrev pub IsTellingAt : {V P : Type 0} → CodePosed → LevelViewOf V P → V → P → Option OldTrace
-    → Result Told AskRefusal → Type 0
-IsTellingAt q W view spot old r = IsTellingOf q (site_seen q W view spot) old r
+abbrev pub IsTellingAt : {V P : Type 0} → CodePosed → AskedLevel → LevelViewOf V P → V → P
+    → Option OldTrace → Result Told AskRefusal → Type 0
+IsTellingAt q k W view spot old r = IsTellingOf q (site_seen q k W view spot) old r
 
 -- the entries are counted that are read for what is posed, at a spot
-abbrev pub CountsToldAt : {V P : Type 0} → CodePosed → LevelViewOf V P → V → P → ℕ → ℕ
+abbrev pub ReadsAt : {V P : Type 0} → CodePosed → AskedLevel → LevelViewOf V P → V → P → ℕ → ℕ
     → Result Told AskRefusal → Type 0
-CountsToldAt q W view spot before after r = CountsTold q (site_seen q W view spot) before after r
+ReadsAt q k W view spot before after r =
+    CountsTold q (site_seen q k W view spot) before after r
 
 -- 3. what is answered, by every naming of the tags that gives the module the lineage of its key
 

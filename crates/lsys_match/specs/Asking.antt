@@ -1,5 +1,5 @@
 -- What is asked of the module at a place of a level.
-use Rattle.std.specs.Prelude.{◌≡◌, ℕ, Bool, List, [], Option, Some, None, length, slice_get, if◌then◌else◌}
+use Rattle.std.specs.Prelude.{◌≡◌, ℕ, Bool, not, is_some, ◌&&◌, List, [], Option, Some, None, length, slice_get, if◌then◌else◌}
 use Rattle.lsys_spec.specs.Systems.{System}
 use Rattle.lsys_spec.specs.Bodies.{Body, group, filter}
 use Rattle.lsys_spec.specs.Levels.{ModuleValue}
@@ -7,11 +7,10 @@ use Rattle.lsys_spec.specs.Walks.{Told}
 use Rattle.lsys_spec.specs.Choice.{Choice}
 use Rattle.lsys_spec.specs.Equalities.{same_all, same_body}
 use Rattle.lsys_module.specs.Views.{module_name}
-use Rattle.lsys_bodies.specs.Filters.{filter_of}
 use Rattle.lsys_level.specs.Spots.{Spotted, Module}
 use Rattle.lsys_walks.specs.Views.{module_named}
 use Rattle.lsys_match.specs.declared.posed.Posed.{Posed as CodePosed}
-use Rattle.lsys_match.specs.Groups.{rules_of}
+use Rattle.lsys_match.specs.Groups.{asks_nothing, rules_of}
 use Rattle.lsys_match.specs.Sites.{Site, choice_told}
 use Rattle.lsys_match.specs.TagQuestions.{Posed, posed_of}
 
@@ -61,8 +60,9 @@ posed_by q = record { tag = q.tag; own = module_named q.name q.params.now; bodie
 abbrev pub site_at : System → ℕ → List Spotted → ℕ → ModuleValue → Site
 site_at s t row p m = record { row = row; place = p; own = m; filter = filter s t }
 
-abbrev pub site_of : CodePosed → List Spotted → ℕ → Site
-site_of q row p = record { row = row; place = p; own = (posed_by q).own; filter = filter_of q.filter }
+-- there are no weights, and the first rule has neither contexts nor a condition
+abbrev pub is_plain : Posed → Bool
+is_plain d = not (is_some d.key) && asks_nothing d.bodies
 
 -- where a naming tells the lineages: what is read for it, and which rule is chosen
 abbrev pub told_for : (ℕ → List ℕ) → Site → Posed → Told Choice

@@ -1,6 +1,7 @@
 -- The rules for a module.
-use Rattle.std.specs.Prelude.{List, [], map, Option, Some, None}
+use Rattle.std.specs.Prelude.{Bool, false, not, is_some, ◌&&◌, List, [], ◌∷◌, map, Option, Some, None}
 use Rattle.lsys_spec.specs.Bodies.{Body, body_of}
+use Rattle.lsys_spec.specs.Standings.{free}
 use Rattle.lsys_bodies.specs.declared.body.Body.{Body as CodeBody}
 use Rattle.lsys_bodies.specs.declared.rule.Rule.{Rule}
 use Rattle.lsys_bodies.specs.Views.{as_rule}
@@ -21,3 +22,8 @@ bodies_of rules = map (λ r. r.body) rules
 abbrev pub rules_found : Option (List CodeBody) → List Body
 rules_found None = []
 rules_found (Some bodies) = rules_of bodies
+
+-- the first rule has neither contexts nor a condition
+abbrev pub asks_nothing : List Body → Bool
+asks_nothing [] = false
+asks_nothing (b ∷ bs) = free (b ∷ []) && not (is_some b.condition)

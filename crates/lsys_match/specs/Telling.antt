@@ -24,7 +24,8 @@ use Rattle.lsys_match.specs.Sites.{Site}
 use Rattle.lsys_match.specs.Asking.{posed_by, told_for}
 use Rattle.lsys_match.specs.Choices.{choice_by}
 use Rattle.lsys_match.specs.Tries.{entries_by}
-use Rattle.lsys_match.specs.TagQuestions.{Posed, TagAnswer}
+use Rattle.lsys_match.specs.Constants.{symbols_by}
+use Rattle.lsys_match.specs.TagQuestions.{TagAnswer}
 use Rattle.lsys_match.specs.Answered.{CountsEntries, IsAnswerTo, trace_told}
 
 -- the choice, where these are the values of the chosen rule's formals
@@ -51,6 +52,11 @@ abbrev pub IsSuccessorOf : CodePosed → Option ℕ → List ℤ → Result (Lis
 IsSuccessorOf q chosen values r =
     let own = module_named q.name q.params.now in IsSuccessor (rules_of q.group) own chosen values r
 
+-- it is this, where these symbols are kept beside the chosen rule
+abbrev pub IsSuccessorKept : CodePosed → Option ℕ → List ℤ → Result (List Symbol) AskRefusal → Type 0
+IsSuccessorKept q chosen values (Ok kept) = IsSuccessorOf q chosen values (Ok (symbols_by q.group chosen kept))
+IsSuccessorKept q chosen values (Err e) = IsSuccessorOf q chosen values (Err e)
+
 -- these symbols, or the refusal
 abbrev pub replaced_by : List Symbol → Result Unit AskRefusal → Result (List Symbol) AskRefusal
 replaced_by symbols (Ok _) = Ok symbols
@@ -73,31 +79,29 @@ abbrev pub HasFittingParams : Option OldTrace → Type 0
 HasFittingParams None = Unit {0}
 HasFittingParams (Some t) = arities t.entries.now ≡ length t.values.now
 
-abbrev pub reply_answer : Posed → Reply → TagAnswer
-reply_answer d r = record { question = record { posed = d; trace = r.trace }; chosen = r.chosen; successor = string_of r.successor }
+abbrev pub reply_answer : CodePosed → Reply → TagAnswer
+reply_answer q r = record { question = record { posed = posed_by q; trace = r.trace }; chosen = r.chosen; successor = string_of (symbols_by q.group r.chosen r.symbols) }
 
--- the reply, where this was read and chosen, or why it has no successor
-abbrev pub IsReply : List Body → ModuleValue → List Noted → Option ℕ → List ℤ → Result Reply AskRefusal → Type 0
-IsReply bs m read chosen values (Ok r) = (r.trace ≡ read) × (r.chosen ≡ chosen) × IsSuccessor bs m chosen values (Ok r.successor)
-IsReply bs m read chosen values (Err e) = IsSuccessor bs m chosen values (Err e)
-
--- the reply to what is posed
+-- the reply to what is posed, where this was read and chosen, or why there is no successor
 abbrev pub IsReplyOf : CodePosed → List Noted → Option ℕ → List ℤ → Result Reply AskRefusal → Type 0
-IsReplyOf q read chosen values r =
-    let own = module_named q.name q.params.now in IsReply (rules_of q.group) own read chosen values r
+IsReplyOf q read chosen values (Ok r) = (r.trace ≡ read) × (r.chosen ≡ chosen) × IsSuccessorKept q chosen values (Ok r.symbols)
+IsReplyOf q read chosen values (Err e) = IsSuccessorOf q chosen values (Err e)
 
 -- the old trace was read; or another one, and this is the answer; or the fault
-abbrev pub IsTelling : ((ℕ → List ℕ) → Told choice.Choice) → Posed → Option (List Noted) → Result CodeTold AskRefusal → Type 0
-IsTelling told d old (Ok Same) = (was : List Noted) × (old ≡ Some was) × ((naming : ℕ → List ℕ) → entries_by naming was ≡ trace_told (told naming))
-IsTelling told d old (Ok (Other r)) = (old ≡ Some r.trace → ⊥) × IsAnswerTo told (reply_answer d r)
-IsTelling told d old (Err (Fault k)) = (naming : ℕ → List ℕ) → successor_by d.bodies d.own (told naming).answer ≡ Err (fault_of k)
-IsTelling told d old (Err Memory) = Unit {0}
+abbrev pub IsTelling : ((ℕ → List ℕ) → Told choice.Choice) → CodePosed → Option (List Noted) → Result CodeTold AskRefusal → Type 0
+IsTelling told q old (Ok Same) = (was : List Noted) × (old ≡ Some was) × ((naming : ℕ → List ℕ) → entries_by naming was ≡ trace_told (told naming))
+IsTelling told q old (Ok (Other r)) = (old ≡ Some r.trace → ⊥) × IsAnswerTo told (reply_answer q r)
+IsTelling told q old (Err (Fault k)) = (naming : ℕ → List ℕ) → successor_by (posed_by q).bodies (posed_by q).own (told naming).answer ≡ Err (fault_of k)
+IsTelling told q old (Err Memory) = Unit {0}
 
 -- this is told of what is posed at a site
 abbrev pub IsTellingOf : CodePosed → Site → Option OldTrace → Result CodeTold AskRefusal → Type 0
 IsTellingOf q site old r =
-    let posed = posed_by q in
-    IsTelling (λ naming. told_for naming site posed) posed (old_trace old) r
+    IsTelling (λ naming. told_for naming site (posed_by q)) q (old_trace old) r
+
+-- this is told of what is posed, wherever its module stands
+abbrev pub IsTellingAnywhere : CodePosed → Option OldTrace → Result CodeTold AskRefusal → Type 0
+IsTellingAnywhere q old r = (site : Site) → site.own ≡ (posed_by q).own → IsTellingOf q site old r
 
 -- by every naming of the tags so many entries were read as are told
 abbrev pub CountsTold : CodePosed → Site → ℕ → ℕ → Result CodeTold AskRefusal → Type 0

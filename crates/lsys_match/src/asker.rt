@@ -16,13 +16,13 @@ use lsys_text::Name;
 use std::alloc::Global;
 use std::marker::Model;
 
-/// Who asks about the modules of one level: what is the same for all of them, found once, and room in which answers are
-/// worked out, which is used again from one to the next. Contracts see the system and the level.
+/// Who asks about the modules of one level: what is the same for all of them, found once, where it is needed first, and
+/// room in which answers are worked out, which is used again from one to the next. Contracts see the system and the level.
 #[derive(Drop)]
 pub struct Asker<'a> {
     system: &'a System,
     level: u32,
-    filter: Filter<'a>,
+    filter: Option<Filter<'a>>,
     pub(crate) scratch: Scratch,
 }
 
@@ -35,13 +35,14 @@ impl<'a> Model for Asker<'a> {
 
     ghost coded = { Prim.hlevel (codes, expr_code) };
 
-    ghost use Rattle.std.specs.Prelude.{◌≡◌};
+    ghost use Rattle.std.specs.Prelude.{◌≡◌, IfSome};
     ghost use Rattle.lsys_spec.specs.Bodies as bodies;
     ghost use Rattle.lsys_bodies.specs.Filters.{filter_of};
 
     ghost view = { λ a. record { system = a.system.now; level = a.level } };
 
-    ghost invariant = { λ a. filter_of a.filter ≡ bodies.filter a.system.now a.level };
+    ghost invariant = { λ a.
+        IfSome a.filter (λ f. filter_of f ≡ bodies.filter a.system.now a.level) };
 }
 
 impl<'a> Asker<'a> {
@@ -52,7 +53,7 @@ impl<'a> Asker<'a> {
         Asker {
             system,
             level,
-            filter: system.filter(level),
+            filter: None,
             scratch: Scratch::new(alloc),
         }
     }
@@ -68,10 +69,16 @@ impl<'a> Asker<'a> {
     }
 
     // What contexts pass over.
-    pub(crate) fn filter(&self) -> Filter<'a>
-        ensures { filter_of result ≡ filter self.now.system self.now.level }
+    pub(crate) fn filter(&mut self) -> Filter<'a>
+        ensures found { filter_of result ≡ filter self.old.system self.old.level }
+        ensures same { self.new ≡ self.old }
     {
-        self.filter
+        if let Some(filter) = self.filter {
+            return filter;
+        }
+        let filter = self.system.filter(self.level);
+        self.filter = Some(filter);
+        filter
     }
 
     /// Whether modules with this name and so many parameters have the same group on the level of another one who asks: the

@@ -9,7 +9,7 @@ ghost use Rattle.lsys_spec.specs.Meaning.{any_weight};
 ghost use Rattle.lsys_spec.specs.Standings.{free, no_patterns};
 ghost use Rattle.lsys_module.specs.Views.{module_name};
 ghost use Rattle.lsys_laws.specs.Sessions.{IsWell};
-ghost use Rattle.lsys_match.specs.Groups.{bodies_of, meant, rules_found, rules_of};
+ghost use Rattle.lsys_match.specs.Groups.{asks_nothing, bodies_of, meant, rules_found, rules_of};
 
 use lsys_bodies::{Item, Rule, SharedBody};
 use lsys_rules::{SharedGroup, System};
@@ -58,6 +58,14 @@ fn has_pattern(items: &[Item]) -> bool
     matches!(items.first(), Some(Item::Push | Item::Pattern(_)))
 }
 
+// The body of the rule at a place among these; none past the last one.
+pub(crate) fn body_at(rules: &[Rule], place: usize) -> Option<&SharedBody>
+    ensures { option_map (λ b. b.now) result ≡ slice_get (bodies_of rules.now) place }
+{
+    let rule = rules.get(place)?;
+    Some(&rule.body)
+}
+
 impl<'a> Group<'a> {
     /// The rules of a level for modules with this name and so many parameters; none where there are no such rules.
     pub(crate) fn at(system: &'a System, level: u32, name: Name, arity: usize) -> Option<Group<'a>>
@@ -74,11 +82,11 @@ impl<'a> Group<'a> {
 
     /// The body of the rule at a place, from 0; none past the last one.
     pub fn get(&self, place: usize) -> Option<&'a SharedBody>
+        ensures kept { option_map (λ b. b.now) result ≡ slice_get self.now place }
         ensures body { option_map (λ b. meant b.now) result ≡ slice_get (rules_of self.now) place }
         ensures few { length (rules_of self.now) ≤ most_rules }
     {
-        let rule = self.rules.get(place)?;
-        Some(&rule.body)
+        body_at(self.rules, place)
     }
 
     /// A rule has a weight.
@@ -107,6 +115,16 @@ impl<'a> Group<'a> {
             place += 1;
         }
         true
+    }
+
+    /// The first rule has neither contexts nor a condition.
+    pub(crate) fn asks_nothing(&self) -> bool
+        ensures { result ≡ asks_nothing (rules_of self.now) }
+    {
+        let Some(body) = self.get(0) else {
+            return false;
+        };
+        !has_context(body) && body.condition().is_none()
     }
 
     /// The rules, to be kept: they are shared, so none is copied.

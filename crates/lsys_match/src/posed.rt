@@ -1,26 +1,24 @@
 //! What is asked of a module, but for what is read.
-ghost use Rattle.std.specs.Prelude.{◌≡◌, ◌≤◌, length, IfNone, IfSome};
+ghost use Rattle.std.specs.Prelude.{◌≡◌, ◌≤◌, ℤ, List, None, Ok, [], IfNone, IfSome, IsTrue, false, length};
 ghost use Rattle.lsys_laws.specs.Sessions.{IsWell};
-ghost use Rattle.lsys_spec.specs.Bodies.{filter};
 ghost use Rattle.lsys_spec.specs.Meaning.{any_weight};
-ghost use Rattle.lsys_bodies.specs.Filters.{filter_of};
 ghost use Rattle.lsys_level.specs.Spots.{IsSpot};
+ghost use Rattle.lsys_match.specs.Constants.{constant_chosen};
 ghost use Rattle.lsys_match.specs.Groups.{rules_of};
-ghost use Rattle.lsys_match.specs.Asking.{key_if, posed_by};
-ghost use Rattle.lsys_match.specs.Telling.{replaced_by, IsSuccessorOf};
+ghost use Rattle.lsys_match.specs.Asking.{is_plain, key_if, posed_by};
+ghost use Rattle.lsys_match.specs.Telling.{replaced_by, IsSuccessorKept, IsSuccessorOf};
 ghost use Rattle.lsys_match.specs.AskedSpots.{HasQuestionAt, IsPosedOf, key_at};
 
 use crate::asker::Asker;
 use crate::group::Group;
 use crate::refusal::AskRefusal;
-use lsys_bodies::Filter;
 use lsys_level::{LevelView, Sight, Tag};
 use lsys_module::{Module, Params, Symbol, SymbolList};
 use lsys_rewrite::fill_into;
 use lsys_text::Name;
+use std::alloc::Global;
 
-/// A question but for its trace: the module with its tag, its group, and its key where the group has weights; and the
-/// filter of its level.
+/// A question but for its trace: the module with its tag, its group, and its key where the group has weights.
 #[derive(Drop)]
 pub(crate) struct Posed<'a> {
     pub(crate) tag: Tag,
@@ -28,7 +26,6 @@ pub(crate) struct Posed<'a> {
     pub(crate) params: &'a [i64],
     pub(crate) group: Group<'a>,
     pub(crate) key: Option<u64>,
-    pub(crate) filter: Filter<'a>,
 }
 
 impl<'a> Posed<'a> {
@@ -42,8 +39,6 @@ impl<'a> Posed<'a> {
         ensures none { IfNone result (HasQuestionAt asker.now W.LevelView view.now spot → ⊥) }
         ensures some { IfSome result (λ _. HasQuestionAt asker.now W.LevelView view.now spot) }
         ensures posed { IfSome result (λ q. IsPosedOf asker.now W.LevelView view.now spot (posed_by q)) }
-        ensures filter { IfSome result
-            (λ q. filter_of q.filter ≡ filter asker.now.system asker.now.level) }
         ensures well { IfSome result (λ _. IsWell asker.now.system) }
         ensures few { IfSome result (λ q. length q.params.now ≤ 8) }
     {
@@ -57,24 +52,50 @@ impl<'a> Posed<'a> {
             params,
             key: key_for(view, spot, &group),
             group,
-            filter: asker.filter(),
         })
     }
 
-    /// What replaces the module: the successor of the rule at a place of its group, where these are the values of the
-    /// rule's formals, or the module itself where no rule is chosen. Nothing is left over in its vector, since it is worked
-    /// out in `symbols`, which may be used again.
-    pub(crate) fn successor(
+    /// Whatever stands around the module, the first rule of its group is chosen: there are no weights, and it has neither
+    /// contexts nor a condition.
+    pub(crate) fn is_plain(&self) -> bool
+        ensures { result ≡ is_plain (posed_by self.now) }
+    {
+        self.key.is_none() && self.group.asks_nothing()
+    }
+
+    /// The symbols that are kept of what replaces the module: the successor of the rule at a place of its group, where these
+    /// are the values of the rule's formals, or the module itself where no rule is chosen. None are kept where they stand in
+    /// the rule's body. Nothing is left over in their vector, since they are worked out in `symbols`, which may be used again.
+    pub(crate) fn kept_symbols(
         &self,
+        alloc: Global,
         symbols: &mut SymbolList,
         chosen: Option<u8>,
         bound: &[i64],
     ) -> Result<SymbolList, AskRefusal>
         requires { length self.now.params.now ≤ 8 }
-        ensures { IsSuccessorOf self.now chosen bound.now result }
+        ensures { IsSuccessorKept self.now chosen bound.now result }
     {
+        if self.has_constant(chosen) {
+            return Ok(SymbolList::new(alloc));
+        }
         self.replace(symbols, chosen, bound)?;
         Ok(symbols.clone()?)
+    }
+
+    // What replaces the module stands in the body of the rule at a place, whose successor has no parameters.
+    fn has_constant(&self, chosen: Option<u8>) -> bool
+        ensures some { IsTrue result
+            → (values : List ℤ) → IsSuccessorKept self.now chosen values (Ok []) }
+        ensures none { result ≡ false → constant_chosen self.now.group chosen ≡ None }
+    {
+        let Some(place) = chosen else {
+            return false;
+        };
+        let Some(body) = self.group.get(place as usize) else {
+            return false;
+        };
+        body.constant().is_some()
     }
 
     // Puts what replaces the module in the place of these symbols.

@@ -1,9 +1,7 @@
 //! Questions.
-ghost use Rattle.std.specs.Prelude.{◌≡◌, ◌+◌, ◌++◌, ◌≤◌, length, option_map, IfNone, IfOk, IfSome, OnErr};
+ghost use Rattle.std.specs.Prelude.{◌≡◌, ◌+◌, ◌++◌, ◌≤◌, length, option_map, IfNone, IfOk, IfSome, OnErr, OnOk};
 ghost use Rattle.lsys_laws.specs.Sessions.{IsWell};
-ghost use Rattle.lsys_spec.specs.Bodies.{filter};
 ghost use Rattle.lsys_spec.specs.Meaning.{most_entries};
-ghost use Rattle.lsys_bodies.specs.Filters.{filter_of};
 ghost use Rattle.lsys_level.specs.Spots.{IsSpot};
 ghost use Rattle.lsys_match.specs.Asking.{asked_level, posed_by};
 ghost use Rattle.lsys_match.specs.Asks.{IsKept, IsMadeIfAny, IsTraceFor, KeepsStore, StaysAsKept, asked_if_any, news, KeepsTrace, kept_lent};
@@ -124,7 +122,6 @@ impl<'a> Asker<'a> {
         requires level { W.level_of view.now spot ≡ self.old.level }
         requires made { IsMadeIfAny store.old (option_map (λ a. a.now) old) }
         requires posed { IsPosedOf self.old W.LevelView view.now spot (posed_by posed.now) }
-        requires filter { filter_of posed.now.filter ≡ filter self.old.system self.old.level }
         requires well { IsWell self.old.system }
         requires few { length posed.now.params.now ≤ 8 }
         ensures same { self.new ≡ self.old }
@@ -134,9 +131,8 @@ impl<'a> Asker<'a> {
         ensures store { KeepsStore store.old store.new (option_map (λ a. a.now) old.entry) result }
     {
         let kept = trace_for(old, store, posed);
-        let scratch = &mut self.scratch;
         let visited = &mut visited.count;
-        let Told::Other(reply) = posed.tell_at(alloc, view, spot, kept, scratch, visited)? else {
+        let Told::Other(reply) = posed.tell_at(alloc, view, spot, self, kept, visited)? else {
             return Ok(Asked::Same);
         };
         let answer = keep(alloc, store, posed, reply)?;
@@ -170,7 +166,7 @@ fn keep<L: Ledger>(
 ) -> Result<Answer<L>, AllocError>
     requires few { length posed.now.params.now ≤ 8 }
     requires entries { length reply.trace ≤ most_entries + 1 }
-    ensures kept { IfOk result (IsKept store.old store.new (reply_answer (posed_by posed.now) reply)) }
+    ensures kept { IfOk result (IsKept store.old store.new (reply_answer posed.now reply)) }
     ensures refused { OnErr result (StaysAsKept store.old store.new) }
 {
     let group = posed.group.share()?;
@@ -181,7 +177,7 @@ fn keep<L: Ledger>(
         key: posed.key,
         runs,
         group,
-        successor: reply.successor,
+        symbols: reply.symbols,
         tag: posed.tag,
         arity: posed.params.len() as u8,
         chosen: reply.chosen,
@@ -222,6 +218,18 @@ fn place_list(
     ensures placed { KeepsTrace store.old store.new entries.now values.now result }
     ensures refused { OnErr result (StaysAsKept store.old store.new) }
 {
-    store.reserve(room(entries.len()), room(values.len()))?;
+    make_room(store, room(entries.len()), room(values.len()))?;
     Ok(store.place(entries, values))
+}
+
+// Makes so much room for a trace and its parameters, where it needs any.
+fn make_room(store: &mut AnswerStore, entries: usize, values: usize) -> Result<(), AllocError>
+    ensures entries { OnOk result (entries ≤ store.new.traces.spare) }
+    ensures params { OnOk result (values ≤ store.new.values.spare) }
+    ensures stays { StaysAsKept store.old store.new }
+{
+    if entries == 0 && values == 0 {
+        return Ok(());
+    }
+    store.reserve(entries, values)
 }

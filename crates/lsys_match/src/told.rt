@@ -1,10 +1,11 @@
 //! What is read and chosen for a question.
-ghost use Rattle.std.specs.Prelude.{◌≡◌, ◌↔◌, ◌≤◌, [], length, IsTrue, Some};
+ghost use Rattle.std.specs.Prelude.{◌≡◌, ◌↔◌, ◌≤◌, [], length, IsTrue, Some, true};
 ghost use Rattle.lsys_level.specs.Spots.{IsSpot};
-ghost use Rattle.lsys_match.specs.Asking.{posed_by};
-ghost use Rattle.lsys_match.specs.Telling.{HasFittingParams, IsOldTrace, IsChosenPlace, old_trace, CountsTold, IsReplyOf, IsTellingOf};
-ghost use Rattle.lsys_match.specs.AskedSpots.{CountsToldAt, IsTellingAt};
+ghost use Rattle.lsys_match.specs.Asking.{is_plain, posed_by};
+ghost use Rattle.lsys_match.specs.Telling.{HasFittingParams, IsOldTrace, IsChosenPlace, old_trace, CountsTold, IsReplyOf, IsTellingAnywhere, IsTellingOf};
+ghost use Rattle.lsys_match.specs.AskedSpots.{IsTellingAt, ReadsAt};
 
+use crate::asker::Asker;
 use crate::choice::Choice;
 use crate::posed::Posed;
 use crate::refusal::AskRefusal;
@@ -33,33 +34,56 @@ pub(crate) enum Told {
     Other(Reply),
 }
 
-/// A trace, the rule that is chosen, by its place, and the successor.
+/// A trace, the rule that is chosen, by its place, and what replaces the module, where it doesn't stand in the rule's body.
 #[derive(Drop)]
 pub(crate) struct Reply {
     pub(crate) trace: Trace,
     pub(crate) chosen: Option<u8>,
-    pub(crate) successor: SymbolList,
+    pub(crate) symbols: SymbolList,
 }
 
 impl<'a> Posed<'a> {
-    /// Reads and chooses at a spot. The old trace is that of an answer to a question that is the same but for the trace.
+    /// Reads and chooses at a spot of the level that is asked about. The old trace is that of an answer to a question that is
+    /// the same but for the trace.
     pub(crate) fn tell_at<W: LevelView, V: Ledger>(
         &self,
         alloc: Global,
         view: &'a W,
         spot: W::Spot,
+        by: &mut Asker<'a>,
         old: Option<OldTrace<'_>>,
-        scratch: &mut Scratch,
         visited: &mut Counter<V>,
     ) -> Result<Told, AskRefusal>
         requires spot { IsSpot (W.levels view.now) (W.level_of view.now spot) (W.place_of view.now spot) }
         requires few { length self.now.params.now ≤ 8 }
         requires old { HasFittingParams old }
-        ensures told { IsTellingAt self.now W.LevelView view.now spot old.entry result }
-        ensures visited { CountsToldAt self.now W.LevelView view.now spot visited.old visited.new result }
+        ensures same { by.new ≡ by.old }
+        ensures told { IsTellingAt self.now by.old W.LevelView view.now spot old.entry result }
+        ensures visited { ReadsAt self.now by.old W.LevelView view.now spot visited.old visited.new result }
     {
-        let site = Site::new(view, spot, self.name, self.params, self.filter);
-        self.tell(alloc, &site, old, scratch, visited)
+        if self.is_plain() {
+            return self.tell_plain(alloc, old);
+        }
+        let site = Site::new(view, spot, self.name, self.params, by.filter());
+        self.tell(alloc, &site, old, &mut by.scratch, visited)
+    }
+
+    /// Chooses the first rule of a group that is plain: nothing is read.
+    fn tell_plain(&self, alloc: Global, old: Option<OldTrace<'_>>) -> Result<Told, AskRefusal>
+        requires plain { is_plain (posed_by self.now) ≡ true }
+        requires few { length self.now.params.now ≤ 8 }
+        ensures { IsTellingAnywhere self.now old.entry result }
+    {
+        if is_unread(old) {
+            return Ok(Told::Same);
+        }
+        let mut symbols = SymbolList::new(alloc);
+        let kept = self.kept_symbols(alloc, &mut symbols, Some(0), self.params)?;
+        Ok(Told::Other(Reply {
+            trace: Trace::new(alloc),
+            chosen: Some(0),
+            symbols: kept,
+        }))
     }
 
     /// Reads and chooses.
@@ -90,7 +114,7 @@ impl<'a> Posed<'a> {
         if is_read(old, &trace) {
             return Ok(Told::Same);
         }
-        match self.reply(trace, chosen, scratch) {
+        match self.reply(alloc, trace, chosen, scratch) {
             Ok(reply) => Ok(Told::Other(reply)),
             Err(refusal) => Err(refusal),
         }
@@ -99,6 +123,7 @@ impl<'a> Posed<'a> {
     /// The reply, where this was read and chosen. The values of the chosen rule's formals are in `scratch`.
     fn reply(
         &self,
+        alloc: Global,
         trace: Reading<'_>,
         chosen: Option<u8>,
         scratch: &mut Scratch,
@@ -106,11 +131,11 @@ impl<'a> Posed<'a> {
         requires { length self.now.params.now ≤ 8 }
         ensures { IsReplyOf self.now trace.entry.read chosen scratch.old.bound.items result }
     {
-        let successor = self.successor(&mut scratch.symbols, chosen, &scratch.bound)?;
+        let symbols = self.kept_symbols(alloc, &mut scratch.symbols, chosen, &scratch.bound)?;
         Ok(Reply {
             trace: trace.finish()?,
             chosen,
-            successor,
+            symbols,
         })
     }
 }
@@ -124,6 +149,16 @@ fn beside<'a>(old: Option<OldTrace<'a>>, alloc: Global) -> Reading<'a>
     match old {
         Some(kept) => Reading::beside_parts(kept.entries, kept.values, alloc),
         None => Reading::beside_parts(&[], &[], alloc),
+    }
+}
+
+// The old trace is there and has no entries.
+fn is_unread(old: Option<OldTrace<'_>>) -> bool
+    ensures { IsTrue result ↔ (old_trace old.entry ≡ Some []) }
+{
+    match old {
+        Some(kept) => kept.entries.is_empty(),
+        None => false,
     }
 }
 

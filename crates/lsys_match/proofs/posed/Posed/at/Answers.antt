@@ -10,7 +10,6 @@ returns-in_default g c = record {
   none = bracketed c.args.asker.now.system c.args.asker.now.level (spots_at (g.W.LevelView.levels c.args.view.now) (g.W.LevelView.level_of c.args.view.now c.args.spot)) (g.W.LevelView.place_of c.args.view.now c.args.spot) c.sight.result c.in_default.not-Module c.sight.ensures.seen;
   some = tt;
   posed = tt;
-  filter = tt;
   well = tt;
   few = tt;
 }
