@@ -25,7 +25,7 @@ use crate::pairs::mate_levels;
 use crate::seen::is_seen;
 use crate::stock::Parts;
 use crate::sweep::sweep_all;
-use crate::walk::{Way, beside, comes_before, first_at, first_child, mate_of};
+use crate::walk::{Way, comes_before, first_at, first_child, mate_of, next_beside};
 use lsys_level::{LevelView, Sight, Tag};
 use lsys_module::Symbol;
 use lsys_region::Region;
@@ -63,6 +63,9 @@ impl<A> Model for Forest<A> {
     } };
 }
 
+/// Room is made for so many notes at least, so that it is seldom made where it is asked for one after the other.
+const SOME_NOTES: usize = 64;
+
 impl<A: Kept> Forest<A> {
     /// A forest of the root alone, at rest.
     ///
@@ -87,12 +90,13 @@ impl<A: Kept> Forest<A> {
     }
 
     /// Makes room for so many nodes, parameters in their rooms, children in their rooms, and changes more: after it the
-    /// spares are at least so much. The forest stays.
+    /// spares are at least so much. The forest stays. It costs a few steps where there is room for nodes and changes already, and no
+    /// room is asked for in the others.
     ///
     /// # Errors
     ///
-    /// Want of memory, also of numbers below 2^32: where the room that was made is for more nodes than that, none finds room
-    /// any more. The other spares are then no less than they were.
+    /// Want of memory; the other spares are then no less than they were. Room is never asked for more than 2^32 nodes, as many
+    /// as have numbers.
     pub fn reserve(
         &mut self,
         nodes: usize,
@@ -113,8 +117,12 @@ impl<A: Kept> Forest<A> {
         ensures kids { OnOk result (kids ≤ spare_kids self.new) }
         ensures notes { OnOk result (notes ≤ self.new.spare_notes) }
     {
+        if nodes <= self.spare_nodes && notes <= self.spare_notes && params == 0 && kids == 0 {
+            return Ok(());
+        }
         let spare_nodes = nodes.max(self.spare_nodes);
-        let spare_notes = notes.max(self.spare_notes);
+        let some_notes = notes.max(SOME_NOTES);
+        let spare_notes = some_notes.max(self.spare_notes);
         let places = spare_notes.saturating_add(self.parts.live() + spare_nodes);
         self.parts.reserve(params, kids, places)?;
         let room = room_for(&mut self.parts, nodes, self.spare_nodes);
@@ -398,7 +406,7 @@ impl<A: Kept> Forest<A> {
         ensures beside { IsNextIn (oriented way (level_with self.now spot)) spot result }
         ensures sound { IsRooted self.now.root (changes_in self.now) (now_of self.now) }
     {
-        beside(
+        next_beside(
             &self.parts,
             self.root,
             spot,

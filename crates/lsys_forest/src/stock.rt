@@ -115,7 +115,7 @@ impl<A: Drop> Parts<A> {
     ///
     /// # Errors
     ///
-    /// Want of memory, also where there is room for more nodes than there are numbers. The nodes stay.
+    /// Want of memory. The nodes stay.
     pub(crate) fn reserve_nodes(&mut self, nodes: usize) -> Result<(), AllocError>
         ensures nodes { self.new ≡ record self.old { capacity = self.new.capacity } }
         ensures room { OnOk result (live_slots self.new.slots + nodes ≤ self.new.capacity) }

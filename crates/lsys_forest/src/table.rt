@@ -42,17 +42,24 @@ impl<A: Drop> Table<A> {
         }
     }
 
-    /// Makes room for so many nodes more.
+    /// Makes room for so many nodes more. Where twice the room would be for more nodes than there are numbers, it is made for
+    /// exactly as many.
     ///
     /// # Errors
     ///
-    /// Want of memory, also where there is room for more nodes than there are numbers. The nodes stay.
+    /// Want of memory. The nodes stay. No clause of the slab bounds what room it makes, so that is looked at; its code makes no
+    /// more than was asked for.
     pub(crate) fn reserve(&mut self, nodes: usize) -> Result<(), AllocError>
         ensures nodes { self.new ≡ record self.old { capacity = self.new.capacity } }
         ensures room { OnOk result (live_slots self.new.slots + nodes ≤ self.new.capacity) }
         ensures numbers { OnOk result (self.new.capacity ≤ 2 ^ 32) }
         ensures capacity { self.old.capacity ≤ self.new.capacity }
     {
+        let live = self.nodes.len();
+        if self.nodes.capacity() > NUMBERS / 2 && self.nodes.capacity() - live < nodes {
+            self.nodes
+                .reserve_exact(nodes.max(NUMBERS.saturating_sub(live)))?;
+        }
         self.nodes.reserve(nodes)?;
         if self.has_numbers() {
             Ok(())

@@ -96,6 +96,29 @@ pub(crate) fn beside<A: Kept>(
     None
 }
 
+/// The same, without a call where the level is linked.
+#[inline]
+pub(crate) fn next_beside<A: Kept>(
+    parts: &Parts<A>,
+    root: NodeId,
+    node: NodeId,
+    depth: u32,
+    linked: u32,
+    way: Way,
+) -> Option<NodeId>
+    requires sound { IsRooted root (changes_of parts.now) (nodes_of parts.now) }
+    requires ranked { AreRanked (nodes_of parts.now) parts.now.footings }
+    requires linked { AreLinked (nodes_of parts.now) root parts.now.footings linked }
+    requires below { 0 < depth }
+    requires among { In node (level_nodes (nodes_of parts.now) root (depth - 1)) }
+    ensures { IsNextIn (oriented way (nodes_at_depth parts.now root depth)) node result }
+{
+    if depth <= linked {
+        return parts.link(node, way);
+    }
+    beside(parts, root, node, depth, linked, way)
+}
+
 /// The first child of the nodes of a level from one of them on, that way; none where they have no children.
 pub(crate) fn first_child<A: Kept>(
     parts: &Parts<A>,
