@@ -130,10 +130,10 @@ module _ {A : Type 0} where
 
   -- a node, and those beside it
   pub all_near : (f : Grove A) (node : ℕ) (a b c d : List Seat) (xs ys zs ws : List ℕ) (left right : Option ℕ) → left ≡ (neighbours_in f node).left → right ≡ (neighbours_in f node).right
-      → Gathers (λ k. k ≡ node) a b xs ys → Gathers (λ k. left ≡ Some k) b c ys zs → Gathers (λ k. right ≡ Some k) c d zs ws → Gathers (IsAtOrBeside f node) a d xs ws
+      → Gathers (λ k. left ≡ Some k) a b xs ys → Gathers (λ k. k ≡ node) b c ys zs → Gathers (λ k. right ≡ Some k) c d zs ws → Gathers (IsAtOrBeside f node) a d xs ws
   all_near f node a b c d xs ys zs ws left right l r g h i =
       gathers_next (IsAtOrBeside f node) (λ k. right ≡ Some k) a c d xs zs ws (λ k e. inr (inr (sym r ∙ e)))
-      (gathers_next (IsAtOrBeside f node) (λ k. left ≡ Some k) a b c xs ys zs (λ k e. inr (inl (sym l ∙ e))) (gathers_kind (λ k. k ≡ node) (IsAtOrBeside f node) a b xs ys (λ k e. inl e) g) h) i
+      (gathers_next (IsAtOrBeside f node) (λ k. k ≡ node) a b c xs ys zs (λ k e. inl e) (gathers_kind (λ k. left ≡ Some k) (IsAtOrBeside f node) a b xs ys (λ k e. inr (inl (sym l ∙ e))) g) h) i
 
 pub readers_next : (reads : Relations) (a b c : List Seat) (xs ys zs us tags : List ℕ) (i x : ℕ) → slice_get us i ≡ Some x → ((k : ℕ) → has tags k ≡ is_settled reads k x)
     → Gathers (IsReader reads us) a b xs ys → Gathers (λ k. In k tags) b c ys zs → Gathers (IsReader reads us) a c xs zs

@@ -89,7 +89,7 @@ pub(crate) fn find_beside<A: Kept>(
     Ok(())
 }
 
-/// Marks and adds a node and those beside it.
+/// Marks and adds a node and those beside it, from left to right.
 fn gather_near<A: Kept>(
     forest: &Forest<A>,
     seats: &mut Seats,
@@ -101,8 +101,8 @@ fn gather_near<A: Kept>(
     ensures gathers { GathersNear forest.now node seats.old seats.new beside.old beside.new }
     ensures all { OnOk result (AllMarked (IsAtOrBeside forest.now node) seats.new) }
 {
-    gather(seats, node, beside)?;
     gather_any(seats, left_of(forest, node), beside)?;
+    gather(seats, node, beside)?;
     gather_any(seats, right_of(forest, node), beside)?;
     Ok(())
 }

@@ -1,5 +1,5 @@
 //! Nodes of a level in order.
-ghost use Rattle.std.specs.Prelude.{◌≡◌, ◌<◌, ◌↔◌, ◌⊎◌, ℕ, IsTrue, IfOk, OnOk, [], length};
+ghost use Rattle.std.specs.Prelude.{◌≡◌, ◌<◌, ◌↔◌, ◌⊎◌, ℕ, IsTrue, IfOk, OnOk, [], false, length};
 ghost use Rattle.lsys_spec.specs.Rows.{In, AreApart};
 ghost use Rattle.lsys_candidates.specs.Asks.{AreOnOneLevel, AreInOrder};
 ghost use Rattle.lsys_candidates.specs.Merges.{AreMergeable, AreMergedIn, IsBeforeNext};
@@ -7,8 +7,9 @@ ghost use Rattle.lsys_candidates.specs.Merges.{AreMergeable, AreMergedIn, IsBefo
 use lsys_forest::{Forest, Kept, NodeId};
 use std::alloc::{AllocError, Global};
 
-/// These nodes of one complete level, none of them twice, in the order in which they come on it. Where they stand in order
-/// already it costs a comparison for each; else comparisons by their number and its logarithm.
+/// These nodes of one complete level, none of them twice, in the order in which they come on it. Each half that stands in order
+/// already costs a comparison for each of its nodes, and where both do, so do they together; at the worst it costs comparisons by
+/// the number of nodes and its logarithm.
 ///
 /// # Errors
 ///
@@ -26,13 +27,19 @@ pub fn in_order<A: Kept>(
     if is_in_order(forest, nodes) {
         return copied(alloc, nodes);
     }
-    sorted(alloc, forest, nodes)
+    let half = nodes.len() / 2;
+    let left = in_order(alloc, forest, &nodes[..half])?;
+    let right = in_order(alloc, forest, &nodes[half..])?;
+    let mut found = Vec::new(alloc);
+    merge(forest, &left, &right, &mut found)?;
+    Ok(found)
 }
 
-/// Whether these nodes of one complete level stand in order already.
+/// Whether these nodes of one complete level stand in order already. Two at least don't, if any.
 fn is_in_order<A: Kept>(forest: &Forest<A>, nodes: &[NodeId]) -> bool
     requires level { AreOnOneLevel forest.now nodes.now }
-    ensures { IsTrue result → AreInOrder forest.now nodes.now }
+    ensures order { IsTrue result → AreInOrder forest.now nodes.now }
+    ensures some { result ≡ false → 1 < length nodes.now }
 {
     let mut next = 1;
     while next < nodes.len() {
@@ -51,29 +58,6 @@ fn copied(alloc: Global, nodes: &[NodeId]) -> Result<Vec<NodeId>, AllocError>
 {
     let mut found = Vec::new(alloc);
     found.extend_from_slice(nodes)?;
-    Ok(found)
-}
-
-/// The same as `in_order`, by halves that are merged.
-fn sorted<A: Kept>(
-    alloc: Global,
-    forest: &Forest<A>,
-    nodes: &[NodeId],
-) -> Result<Vec<NodeId>, AllocError>
-    requires level { AreOnOneLevel forest.now nodes.now }
-    requires apart { AreApart nodes.now }
-    ensures same { IfOk result (λ found. (k : ℕ) → In k found.items ↔ In k nodes.now) }
-    ensures order { IfOk result (λ found. AreInOrder forest.now found.items) }
-{
-    let mut found = Vec::new(alloc);
-    if nodes.len() <= 1 {
-        found.extend_from_slice(nodes)?;
-        return Ok(found);
-    }
-    let half = nodes.len() / 2;
-    let left = sorted(alloc, forest, &nodes[..half])?;
-    let right = sorted(alloc, forest, &nodes[half..])?;
-    merge(forest, &left, &right, &mut found)?;
     Ok(found)
 }
 

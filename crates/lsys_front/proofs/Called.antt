@@ -37,19 +37,19 @@ module _ (d : Differences) (beside readers others : List ℕ) where
 
   -- all of them are marked then
   pub all_called : (a b c e f : List Seat) (vs ws xs ys zs came turned next read : List ℕ) → came ≡ d.changes.came → turned ≡ d.turned → next ≡ beside → read ≡ readers
-      → Gathers (λ k. In k came) a b vs ws → Gathers (λ k. In k turned) b c ws xs → Gathers (λ k. In k next) c e xs ys → Gathers (λ k. In k read) e f ys zs
-      → AllMarked (λ k. In k others) a → AllMarked (λ k. In k came) b → AllMarked (λ k. In k turned) c → AllMarked (λ k. In k next) e → AllMarked (λ k. In k read) f
+      → Gathers (λ k. In k next) a b vs ws → Gathers (λ k. In k read) b c ws xs → Gathers (λ k. In k turned) c e xs ys → Gathers (λ k. In k came) e f ys zs
+      → AllMarked (λ k. In k others) a → AllMarked (λ k. In k next) b → AllMarked (λ k. In k read) c → AllMarked (λ k. In k turned) e → AllMarked (λ k. In k came) f
       → AllMarked Kind f
   all_called a b c e f vs ws xs ys zs came turned next read is is' is'' is''' g1 g2 g3 g4 m0 m1 m2 m3 m4 k i =
-      let two = still_marked (λ k. In k turned) b c ws xs g2 k in
-      let three = still_marked (λ k. In k next) c e xs ys g3 k in
-      let four = still_marked (λ k. In k read) e f ys zs g4 k in
+      let two = still_marked (λ k. In k read) b c ws xs g2 k in
+      let three = still_marked (λ k. In k turned) c e xs ys g3 k in
+      let four = still_marked (λ k. In k came) e f ys zs g4 k in
       elim i [
-        | inl j ↦ four (three (two (still_marked (λ k. In k came) a b vs ws g1 k (m0 k j))))
-        | inr (inl j) ↦ four (three (two (m1 k (subst (In k) (sym is) j))))
-        | inr (inr (inl j)) ↦ four (three (m2 k (subst (In k) (sym is') j)))
-        | inr (inr (inr (inl j))) ↦ four (m3 k (subst (In k) (sym is'') j))
-        | inr (inr (inr (inr j))) ↦ m4 k (subst (In k) (sym is''') j)
+        | inl j ↦ four (three (two (still_marked (λ k. In k next) a b vs ws g1 k (m0 k j))))
+        | inr (inl j) ↦ m4 k (subst (In k) (sym is) j)
+        | inr (inr (inl j)) ↦ four (m3 k (subst (In k) (sym is') j))
+        | inr (inr (inr (inl j))) ↦ four (three (two (m1 k (subst (In k) (sym is'') j))))
+        | inr (inr (inr (inr j))) ↦ four (three (m2 k (subst (In k) (sym is''') j)))
       ]
 
 -- 2. where none was marked, these are all

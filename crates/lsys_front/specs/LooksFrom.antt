@@ -1,5 +1,5 @@
 -- Where it is looked on the next level, by what differs on this one.
-use Rattle.std.specs.Prelude.{ℕ, List, [], ◌++◌, Vec}
+use Rattle.std.specs.Prelude.{ℕ, Bool, List, [], ◌++◌, Vec, IsTrue}
 use Rattle.std.specs.declared.alloc.Global.{Global}
 use Rattle.lsys_forest.specs.Groves.{Grove, now_of}
 use Rattle.lsys_forest.specs.Rows.{level_nodes}
@@ -20,6 +20,10 @@ module _ {A : Type 0} where
   -- it was looked below the touched nodes and those that came, and below those that came or turned
   abbrev pub LooksFrom : Grove A → Differences → List ℕ → List ℕ → Type 0
   LooksFrom f d touched looked = LooksBelow f (touched ++ d.changes.came) (moved_in d) looked
+
+  -- So it was, if the next level was there at the last rest; else no node of it can have other neighbours than then.
+  abbrev pub LooksIfThere : Bool → Grove A → Differences → ToldNodes → LevelChanges → Type 0
+  LooksIfThere was_there f d told next = IsTrue was_there → LooksFrom f d told.touched next.looked
 
   -- only nodes of the next level were added
   abbrev pub AddsBelowThem : Grove A → Differences → List ℕ → Vec ℕ Global → Vec ℕ Global → Type 0

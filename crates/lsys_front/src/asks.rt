@@ -61,7 +61,8 @@ impl Front {
         in_order(alloc, forest, &asked)
     }
 
-    /// Marks and adds the nodes that may have to be asked, each once.
+    /// Marks and adds the nodes that may have to be asked, each once. Those that turned or came are the last: where symbols come to an axiom, by
+    /// places, a level grows at its end.
     fn gather(
         &self,
         seats: &mut Seats,
@@ -74,10 +75,10 @@ impl Front {
         ensures all { OnOk result (AllMarked (MayAsk self.now found.now others.now) seats.new) }
     {
         gather_nodes(seats, others, nodes)?;
-        gather_nodes(seats, &self.changes.came, nodes)?;
-        gather_nodes(seats, &self.turned, nodes)?;
         gather_nodes(seats, &found.beside, nodes)?;
         gather_nodes(seats, &found.readers, nodes)?;
+        gather_nodes(seats, &self.turned, nodes)?;
+        gather_nodes(seats, &self.changes.came, nodes)?;
         Ok(())
     }
 }

@@ -1,6 +1,6 @@
 -- A level that was made below one of which all was asked.
-use Rattle.std.proofs.Common.{◌≡◌, ◌⊎◌, ◌+◌, ◌<◌, ◌≤◌, ℕ, suc, List, [], ◌++◌, length, slice_get, Option, Some, None, Ok, refl, sym, ap, ◌∙◌, subst, inl, inr, arith, sum_by}
-use Rattle.std.specs.Prelude.{◌-◌, IsSome, option_map}
+use Rattle.std.proofs.Common.{◌≡◌, ◌⊎◌, ◌+◌, ◌<◌, ◌≤◌, ℕ, suc, Bool, List, [], ◌++◌, length, slice_get, Option, Some, None, Ok, refl, sym, ap, ◌∙◌, subst, inl, inr, arith, sum_by}
+use Rattle.std.specs.Prelude.{IsTrue, ◌-◌, IsSome, option_map}
 use Rattle.std.specs.Option.{option_and_then}
 use Rattle.std.proofs.lemmas.Bool.{cases_lt}
 use Rattle.std.proofs.lemmas.Option.{none-some, same_Some}
@@ -57,7 +57,7 @@ use Rattle.lsys_pass.specs.Rests.{IsResting}
 use Rattle.lsys_pass.specs.Stages.{IsAtLevel}
 use Rattle.lsys_pass.specs.Advances.{KeepsRest, symbols_wanted}
 use Rattle.lsys_pass.specs.Passes.{PassView, stage_of, now_in, rest_in, repair_of, IsPass}
-use Rattle.lsys_pass.specs.Made.{KeepsAnswers, MakesBelow}
+use Rattle.lsys_pass.specs.Made.{KeepsAnswers, MakesBelow, IsNextFront}
 use Rattle.lsys_pass.specs.Fresh.{WasAsked, row_of, wanted_on_level, AreNextParents, Goes, HasListsBefore, AreDroppedBefore, IsMadeTo, WasLookedAt, WasJustMade}
 use Rattle.lsys_pass.proofs.Asking.{balanced_now}
 use Rattle.lsys_pass.proofs.Before.{no_more}
@@ -311,19 +311,19 @@ module _ (v : PassView) (t : ℕ) (a : WasAsked v t) (h : Grove Kept) (ps : List
         let past : length (levels_meant v.system v.limit) + (t + 1 - length (levels_meant v.system v.limit)) ≡ t + 1 = omega (arith, count, l) in
         was_level (t + 1) ∙ ap (level_nodes (rest_in v) root) (sym past) ∙ no_more (rest_in v) root (length (levels_meant v.system v.limit)) (t + 1 - length (levels_meant v.system v.limit)) rests.ends
 
-    looked_enough : (looked : List ℕ) → LooksBelow h (told.touched ++ v.front.changes.came) turned looked
+    looked_enough : (looked : List ℕ) → (t < v.system.depth → LooksBelow h (told.touched ++ v.front.changes.came) turned looked)
         → (k : ℕ) → In k (level_nodes (now_of h) h.root (t + 1)) → In k (level_nodes (rest_of h) h.root (t + 1)) → In k looked ⊎ (neighbours_in h k ≡ neighbours_at v.seats k)
     looked_enough looked looks k i j = elim (cases_lt t v.system.depth) [
       | inl l ↦
           next_looks r v.seats v.front h (wanted_on_level v t) (kept_successors (now_of h)) ps told looked spots l front made_next levels
-          (answered_level v.next v.limit t (now_of h) h.root v.store answered).replaced families looks were_seated k i j
+          (answered_level v.next v.limit t (now_of h) h.root v.store answered).replaced families (looks l) were_seated k i j
       | inr l ↦ absurd (subst (In k) (none_were l) j)
     ]
 
     -- 5. the pass
 
     module _ (seats : List Seat) (made : List Size) (d : Differences) (same : SameSeats v.seats seats) (kept : KeepsSeats v.seats seats) (room : (k : ℕ) → IsLive h k → HasSeat seats k) (bare : d.bare ≡ [])
-        (tells : IsToldNext h v.front told d.changes) (looks : LooksBelow h (told.touched ++ v.front.changes.came) turned d.changes.looked) (adds : AddsBelow h t [] d.changes.looked) (deep : t < v.next.depth) where
+        (tells : IsToldNext h v.front told d.changes) (looks : t < v.system.depth → LooksBelow h (told.touched ++ v.front.changes.came) turned d.changes.looked) (adds : AddsBelow h t [] d.changes.looked) (deep : t < v.next.depth) where
       abbrev after : PassView
       after = record v { forest = h; seats = seats; made = made; front = d }
 
@@ -421,6 +421,15 @@ made_failed v h seats sizes made d pass failed keeps same marks kept stay = stil
   seats = kept;
 })
 
+-- what is known of the front of the next level, where it took the place of the other
+pub front_taken : {was_there : Bool} {h : Grove Kept} {old taken next : Differences} {told : ToldNodes} → taken ≡ next
+    → IsNextFront was_there h old told next → IsNextFront was_there h old told taken
+front_taken {was_there} {h} {old} {taken} {next} {told} e x = subst (IsNextFront was_there h old told) (sym e) x
+
+-- the next level was there, where its level was not the last one
+pub level_was_there : {t depth told : ℕ} {was_there : Bool} → told ≡ depth → (t < told → IsTrue was_there) → t < depth → IsTrue was_there
+level_was_there {t} {depth} {told} {was_there} e asked below = asked (subst (λ n. t < n) (sym e) below)
+
 -- 7. the same, as another view of the pass tells it
 
 module _ (v w : PassView) (t : ℕ) (e : v ≡ w) (asked : WasAsked w t) (ps : List Parent) (found : AreNextParents w t ps) (s : System) (target : s ≡ v.next) where
@@ -456,7 +465,7 @@ module _ (v w : PassView) (t : ℕ) (e : v ≡ w) (asked : WasAsked w t) (ps : L
           ∙ ap (with_level w.made) (is ∙ ap (λ (z : PassView). symbols_wanted (stage_of z) t) (sym e) ∙ sym (long v t here h ps told parents keeps makes))
 
       module _ (seats : List Seat) (sizes made : List Size) (d : Differences) (same : SameSeats v.seats seats) (kept : KeepsSeats v.seats seats) (room : (k : ℕ) → IsLive h k → HasSeat seats k) (bare : d.bare ≡ [])
-          (tells : IsToldNext h v.front told d.changes) (looks : LooksBelow h (told.touched ++ v.front.changes.came) (v.front.changes.came ++ v.front.turned) d.changes.looked)
+          (tells : IsToldNext h v.front told d.changes) (looks : t < v.system.depth → LooksBelow h (told.touched ++ v.front.changes.came) (v.front.changes.came ++ v.front.turned) d.changes.looked)
           (adds : (u : ℕ) → StandOn h u (told.touched ++ (v.front.changes.came ++ v.front.turned)) → AddsBelow h u [] d.changes.looked) (deep : t < w.next.depth) where
         below_depth : t < v.next.depth
         below_depth = subst (λ (z : PassView). t < z.next.depth) (sym e) deep

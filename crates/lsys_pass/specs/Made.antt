@@ -1,5 +1,5 @@
 -- The children of some parents, made in a forest.
-use Rattle.std.specs.Prelude.{◌≡◌, ◌<◌, ◌^◌, [], ℕ, List}
+use Rattle.std.specs.Prelude.{◌≡◌, ◌<◌, ◌^◌, [], ℕ, Bool, List}
 use Rattle.lsys_syntax.specs.Commands.{Numbering}
 use Rattle.lsys_match.specs.Kept.{Kept}
 use Rattle.lsys_forest.specs.Groves.{Grove, AreSound, now_of, rest_of, changes_in, kept_in, live_nodes}
@@ -10,7 +10,7 @@ use Rattle.lsys_repair.specs.declared.parent.Parent.{Parent}
 use Rattle.lsys_repair.specs.Parents.{nodes_in, AreParents, AreToldBy}
 use Rattle.lsys_repair.specs.Made.{TellsAllOf, gone_of}
 use Rattle.lsys_front.specs.Fronts.{Differences, IsToldFirst, IsToldNext, nothing}
-use Rattle.lsys_front.specs.LooksFrom.{LooksFrom, LooksOnlyBelow, first_nodes}
+use Rattle.lsys_front.specs.LooksFrom.{LooksIfThere, LooksOnlyBelow, first_nodes}
 use Rattle.lsys_pass.specs.declared.sizes.Sizes.{Sizes}
 use Rattle.lsys_pass.specs.Sizes.{with_level}
 
@@ -31,10 +31,12 @@ pub record MakesBelow (g : Numbering) (old new : Grove Kept) (ps : List Parent)
   pub tells : TellsAllOf (now_of old) (now_of new) (nodes_in ps) nothing told
   pub gone : told.gone ≡ gone_of g (now_of old) ps
 
--- It is told what differs on the next level, by what differs on the one above and what was told when its nodes were made.
-pub record IsNextFront (f : Grove Kept) (old : Differences) (made : ToldNodes) (new : Differences) : Type 0 where
+-- It is told what differs on the next level, by what differs on the one above and what was told when its nodes were made; and who was
+-- looked at, if the level was there at the last rest.
+pub record IsNextFront (was_there : Bool) (f : Grove Kept) (old : Differences) (made : ToldNodes)
+    (new : Differences) : Type 0 where
   pub told : IsToldNext f old made new.changes
-  pub looks : LooksFrom f old made.touched new.changes.looked
+  pub looks : LooksIfThere was_there f old made new.changes
   pub below : LooksOnlyBelow f old made new.changes
   pub bare : new.bare ≡ []
 

@@ -89,10 +89,11 @@ impl<L: Ledger> Pass<L> {
             &mut self.brood,
         )?;
         link_busy(&mut self.forest, next, busy);
+        let was_there = is_asked(level, self.system.depth());
+        let front = next_front(alloc, &self.forest, &self.work.front, &told, was_there)?;
         come_below(
-            alloc,
             &self.forest,
-            &told,
+            front,
             symbols,
             &mut self.work.front,
             &mut self.seats,
@@ -131,24 +132,41 @@ fn make_below<L: Ledger>(
     Ok(told)
 }
 
-/// Comes from a level to the next one, of whose nodes it was told what became of them: it is told what differs there in place of what
-/// differs on the level, each node has a seat, and the next level is counted.
+/// What differs on the next level, of whose nodes it was told what became of them, by what differs on this one.
+///
+/// # Errors
+///
+/// Want of memory.
+fn next_front<L: Ledger>(
+    alloc: Global,
+    forest: &Forest<KeptAnswer<L>>,
+    front: &Front,
+    told: &Changes,
+    was_there: bool,
+) -> Result<Front, AllocError>
+    requires lives { (k : ℕ) → In k front.now.changes.gone → IsLive forest.now k }
+    requires level { (t : ℕ) × StandOn forest.now t (told.now.touched ++ moved_in front.now) }
+    ensures { IfOk result (IsNextFront was_there forest.now front.now told.now) }
+{
+    let next = front.next(alloc, forest, told, was_there)?;
+    Ok(next)
+}
+
+/// Comes from a level to the next one, which has so many symbols: what differs there takes the place of what differs on the level, each
+/// node has a seat, and the next level is counted.
 ///
 /// # Errors
 ///
 /// Want of memory. What the seats tell, the marks, and the sizes of the last rest stay then too.
-fn come_below<L: Ledger>(
-    alloc: Global,
-    forest: &Forest<KeptAnswer<L>>,
-    told: &Changes,
+fn come_below<A: Kept>(
+    forest: &Forest<A>,
+    next: Front,
     symbols: usize,
     front: &mut Front,
     seats: &mut Seats,
     sizes: &mut Sizes,
 ) -> Result<(), AllocError>
-    requires lives { (k : ℕ) → In k front.old.changes.gone → IsLive forest.now k }
-    requires level { (t : ℕ) × StandOn forest.now t (told.now.touched ++ moved_in front.old) }
-    ensures next { OnOk result (IsNextFront forest.now front.old told.now front.new) }
+    ensures next { OnOk result (front.new ≡ next) }
     ensures seats { SameSeats seats.old seats.new }
     ensures marks { SameMarks seats.old seats.new }
     ensures keeps { KeepsSeats seats.old seats.new }
@@ -158,26 +176,7 @@ fn come_below<L: Ledger>(
 {
     make_seats(seats, forest)?;
     sizes.add(symbols)?;
-    take_next(front, alloc, forest, told)?;
-    Ok(())
-}
-
-/// What differs on the next level, of whose nodes it was told what became of them, takes the place of what differs on this one.
-///
-/// # Errors
-///
-/// Want of memory.
-fn take_next<L: Ledger>(
-    front: &mut Front,
-    alloc: Global,
-    forest: &Forest<KeptAnswer<L>>,
-    told: &Changes,
-) -> Result<(), AllocError>
-    requires lives { (k : ℕ) → In k front.old.changes.gone → IsLive forest.now k }
-    requires level { (t : ℕ) × StandOn forest.now t (told.now.touched ++ moved_in front.old) }
-    ensures { OnOk result (IsNextFront forest.now front.old told.now front.new) }
-{
-    *front = front.next(alloc, forest, told)?;
+    *front = next;
     Ok(())
 }
 

@@ -41,5 +41,5 @@ loop-next-preserved g c =
       stepped = stepped_next (place_of_node c.args.forest.now) xs n x y c.loop-next.invariant.stepped c.loop-next.invariant.some here there (c.if-not-is_before.ensures.0 refl);
     }
 
-pub returns : goal.returns
-returns g c = λ yes. all_stepped (place_of_node c.args.forest.now) c.args.nodes.now c.loop-next.next c.loop-next-test.false c.loop-next.invariant.stepped
+pub returns-clause-order : goal.returns-clause-order
+returns-clause-order g c = λ yes. all_stepped (place_of_node c.args.forest.now) c.args.nodes.now c.loop-next.next c.loop-next-test.false c.loop-next.invariant.stepped

@@ -1,12 +1,13 @@
-use Rattle.std.proofs.Common.{arith, rules, ◌⊎◌, ◌↔◌, ◌/◌, ℕ, length, sym, subst}
-use Rattle.std.proofs.lemmas.Grind.{common_steps}
+use Rattle.std.proofs.Common.{rules, ◌⊎◌, ◌↔◌, ◌/◌, ℕ, length, refl, sym, subst}
+use Rattle.std.proofs.lemmas.Result.{IfOk-weaker}
 use Rattle.lsys_spec.specs.Rows.{In}
+use Rattle.lsys_candidates.specs.Asks.{AreInOrder}
 use Rattle.lsys_candidates.specs.Merges.{AreMergeable}
 use Rattle.lsys_candidates.proofs.Merging.{take_apart, rest_apart, front_level, rest_level, mergeable, parts_same}
-use Rattle.lsys_candidates.proofs.order.+sorted.Goals as goal
+use Rattle.lsys_candidates.proofs.order.+in_order.Goals as goal
 
-pub sorted-requires : goal.sorted-requires
-sorted-requires g t c κs within = (
+pub in_order-requires : goal.in_order-requires
+in_order-requires g t c κs within = (
   search rules,
   (
     search rules,
@@ -20,8 +21,8 @@ sorted-requires g t c κs within = (
   ),
 )
 
-pub sorted-requires-2 : goal.sorted-requires-2
-sorted-requires-2 g t c κs within = (
+pub in_order-requires-2 : goal.in_order-requires-2
+in_order-requires-2 g t c κs within = (
   search rules,
   (
     search rules,
@@ -55,5 +56,8 @@ returns-clause-same g t c =
     parts_same f xs (length xs / 2) c.requires.level ys zs c.requires.apart c.in_ok-left.ensures.same c.in_ok-right.ensures.same found
     (subst (λ zs. (k : ℕ) → In k found ↔ (In k ys ⊎ In k zs)) c.deref-2.ensures.value same)
 
-pub returns-then-nodes-le1-clause-order : goal.returns-then-nodes-le1-clause-order
-returns-then-nodes-le1-clause-order g t c = grind (arith, common_steps)
+pub returns-then-is_in_order-clause-same : goal.returns-then-is_in_order-clause-same
+returns-then-is_in_order-clause-same g t c = IfOk-weaker c.copied.result _ _ (λ found e k. subst (λ xs. In k xs ↔ In k c.args.nodes.now) (sym e) (λ i. i, λ i. i)) c.copied.ensures
+
+pub returns-then-is_in_order-clause-order : goal.returns-then-is_in_order-clause-order
+returns-then-is_in_order-clause-order g t c = IfOk-weaker c.copied.result _ _ (λ found e. subst (AreInOrder c.args.forest.now) (sym e) (c.if-is_in_order.ensures.order refl)) c.copied.ensures
