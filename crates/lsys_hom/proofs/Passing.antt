@@ -1,8 +1,13 @@
 -- One symbol of the level is passed.
-use Rattle.std.proofs.Common.{◌≡◌, ℕ, zero, suc, ◌+◌, ◌<◌, Option, Some, None, List, [], ◌∷◌, length, drop, slice_get, refl, ap, ap₂, sym, ◌∙◌, add-one, arith}
+use Rattle.std.proofs.Common.{◌≡◌, ℕ, ℤ, zero, suc, ◌+◌, ◌<◌, Bool, true, false, Ok, Err, nat_lt, if◌then◌else◌, Option, Some, None, List, [], ◌∷◌, length, drop, slice_get, refl, ap, ap₂, sym, ◌∙◌, add-one, arith}
 use Rattle.std.specs.Prelude.{option_map, MatchOption}
 use Rattle.lsys_spec.specs.Systems.{Homomorphism}
-use Rattle.lsys_level.specs.Spots.{Seen, Spotted, spots_at, with_lineage}
+use Rattle.std.proofs.lemmas.Bool.Decides.{nat_tests}
+use Rattle.lsys_syntax.specs.Limits.{most_image_symbols}
+use Rattle.lsys_syntax.specs.Strings as S
+use Rattle.lsys_spec.specs.Levels.{plain}
+use Rattle.lsys_spec.specs.Images.{ImageLimit, within_image}
+use Rattle.lsys_level.specs.Spots.{Seen, Push, Pop, Module, Spotted, spots_at, with_lineage}
 use Rattle.lsys_hom.specs.Coming.{Coming, coming_from, modules_behind, symbol_image, coming_with}
 use Rattle.lsys_hom.specs.Ways.{at, bare_level, rest_from}
 
@@ -27,6 +32,19 @@ coming_passed hs n k x p v e =
     ap (λ r. coming_from hs n k (bare_level r)) h.is
     ∙ ap (λ w. coming_with (symbol_image hs n k (with_lineage [] w)) (behind hs n k w (drop (suc p) x))) h.seen
     ∙ ap (λ q. coming_with (symbol_image hs n k (with_lineage [] v)) (behind hs n k v (drop q x))) (sym (add-one p))
+
+within_one : (k : ℕ) (x : S.Symbol ℤ) → k < most_image_symbols → within_image k (x ∷ []) ≡ Ok (x ∷ [])
+within_one k x h = by (nat_lt most_image_symbols (k + 1)) refl
+  where
+    by : (over : Bool) → nat_lt most_image_symbols (k + 1) ≡ over → (if over then Err ImageLimit else Ok (x ∷ [])) ≡ Ok (x ∷ [])
+    by true e = absurd (grind (arith, nat_tests))
+    by false e = refl
+
+-- without rules a symbol is its own image, where the limit isn't reached
+pub kept_image : (n k : ℕ) (v : Seen) → k < most_image_symbols → symbol_image [] n k (with_lineage [] v) ≡ Ok (plain (with_lineage [] v) ∷ [])
+kept_image n k Push h = within_one k S.Push h
+kept_image n k Pop h = within_one k S.Pop h
+kept_image n k (Module m) h = within_one k (S.Module m.name m.params) h
 
 -- fewer symbols are left
 pub left_passed : (x : List Spotted) (p : ℕ) (v : Seen) → option_map (λ s. s.seen) (slice_get x p) ≡ Some v → length (drop (p + 1) x) < length (drop p x)

@@ -2,8 +2,10 @@
 ghost use Rattle.std.specs.Prelude.{◌<◌, ◌≤◌, length};
 ghost use Rattle.lsys_level.specs.Spots.{spots_at};
 ghost use Rattle.lsys_hom.specs.Calls.{IsNext};
+ghost use Rattle.lsys_hom.specs.Looks.{IsKeptLook, IsNextLook};
 ghost use Rattle.lsys_hom.specs.Ways.{ComesFrom};
 
+use crate::look::{Glance, look_at};
 use crate::part::Part;
 use crate::refusal::ImageRefusal;
 use crate::walk::Walk;
@@ -67,6 +69,41 @@ impl<'a, W: LevelView> Image<'a, W> {
                 self.part = part;
                 Ok(self.part.next())
             }
+        }
+    }
+
+    /// Takes the next symbol as `next` does, and answers what is looked at of it: all that a turtle asks. It costs less.
+    ///
+    /// # Errors
+    ///
+    /// Those of `next`.
+    pub fn look(&mut self) -> Result<Option<Glance>, ImageRefusal>
+        ensures { IsNextLook self.old self.new result }
+    {
+        match self.look_at_level() {
+            Some(seen) => Ok(Some(seen)),
+            None => self.look_at_next(),
+        }
+    }
+
+    // Where no rules are and nothing is left of an image, goes along the level itself. None where nothing is taken so.
+    fn look_at_level(&mut self) -> Option<Glance>
+        ensures { IsKeptLook self.old self.new result }
+    {
+        if !self.part.is_over() {
+            return None;
+        }
+        self.walk.pass_kept()
+    }
+
+    // Takes the next symbol, whatever it comes from.
+    fn look_at_next(&mut self) -> Result<Option<Glance>, ImageRefusal>
+        ensures { IsNextLook self.old self.new result }
+    {
+        match self.next() {
+            Ok(Some(symbol)) => Ok(Some(look_at(&symbol))),
+            Ok(None) => Ok(None),
+            Err(why) => Err(why),
         }
     }
 }

@@ -6,12 +6,14 @@
 mod choice;
 mod image;
 mod law;
+mod look;
 mod part;
 mod refusal;
 mod walk;
 
 pub use image::Image;
 pub use law::law_of_images;
+pub use look::Glance;
 pub use part::Part;
 pub use refusal::ImageRefusal;
 pub use walk::{Walk, part_of};

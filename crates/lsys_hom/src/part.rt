@@ -1,5 +1,5 @@
 //! What is left of the image of one symbol of a level.
-ghost use Rattle.std.specs.Prelude.{◌≡◌, ◌≤◌, ◌∷◌, [], ℤ, List, length, map, MatchOption};
+ghost use Rattle.std.specs.Prelude.{◌≡◌, ◌≤◌, ◌∷◌, [], ℤ, IsTrue, List, length, map, MatchOption};
 ghost use Rattle.lsys_syntax.specs.Strings as S;
 ghost use Rattle.lsys_spec.specs.Images.{image_of};
 ghost use Rattle.lsys_spec.specs.Meaning.{filled};
@@ -58,6 +58,13 @@ impl<'a> Part<'a> {
             Part::Single(_) => 1,
             Part::Successor { templates, .. } => templates.len(),
         }
+    }
+
+    /// Nothing is left. False may be answered of a successor too of which nothing is left.
+    pub(crate) fn is_over(&self) -> bool
+        ensures { IsTrue result → symbols_of self.now ≡ [] }
+    {
+        matches!(self, Part::Nothing)
     }
 
     /// Takes the first symbol.

@@ -5,9 +5,11 @@ ghost use Rattle.lsys_bodies.specs.Views.{homomorphism_of};
 ghost use Rattle.lsys_level.specs.Views.{HasFewParams, seen_of};
 ghost use Rattle.lsys_level.specs.Spots.{spots_at, with_lineage};
 ghost use Rattle.lsys_hom.specs.Coming.{modules_behind};
+ghost use Rattle.lsys_hom.specs.Looks.{IsKeptLook};
 ghost use Rattle.lsys_hom.specs.Parts.{IsPartOf};
 ghost use Rattle.lsys_hom.specs.Ways.{IsSoundPartIfAny, IsNextPart, IsPassed, is_empty_part, coming_by};
 
+use crate::look::{Glance, look_of};
 use crate::part::Part;
 use crate::refusal::ImageRefusal;
 use lsys_bodies::HomRule;
@@ -60,6 +62,25 @@ impl<'a, W: LevelView> Walk<'a, W> {
             modules: 0,
             symbols: 0,
         }
+    }
+
+    /// Where no rules are, passes one symbol of the level, which is its own image, and answers what is looked at of it. None where
+    /// none is left, there are rules, or the image has as many symbols as it may have: then none is passed.
+    pub(crate) fn pass_kept(&mut self) -> Option<Glance>
+        ensures { IsKeptLook self.old.coming self.new.coming result }
+    {
+        let Some(spot) = self.spot else {
+            return None;
+        };
+        if !self.rules.is_empty() || self.symbols >= MOST_SYMBOLS {
+            return None;
+        }
+        let view = self.view;
+        let sight = view.sight(spot);
+        self.modules = modules_behind(self.modules, &sight);
+        self.symbols += 1;
+        self.spot = view.right(spot);
+        Some(look_of(sight))
     }
 
     /// Passes symbols of the level up to one whose image isn't empty, and tells it; None at the level's end.

@@ -43,10 +43,11 @@ can_begin l s levels room i w h deep is start same =
 pub few_begin : (s : System) (levels : List (List Spotted)) (i : Coming) → i ≡ last_image s levels → 0 + length i.symbols ≤ most_image_symbols
 few_begin s levels i is = subst (λ (c : Coming). 0 + length c.symbols ≤ most_image_symbols) (sym is) (few_from s.homomorphisms 0 0 (last_symbols (λ tag. []) s levels) (omega arith))
 
-one_deeper : (m o x n : ℕ) → max m (max o x) ≡ n → o ≤ m → o + 1 ≤ x → max (max m (o + 1)) x ≡ n
-one_deeper m o x n e h k = omega arith
+one_deeper : (m o k x n : ℕ) → max m (max o x) ≡ n → o ≤ m → k ≤ x → max (max m k) x ≡ n
+one_deeper m o k x n e h b = omega arith
 
--- the nesting behind `[`, where so many branches are open before it, and so many were at most so far
-pub nested_push : (most here n : ℕ) (old new : List (S.Symbol ℤ)) → old ≡ S.Push ∷ new → max most (nesting_from here old) ≡ n → here ≤ most → max (max most (here + 1)) (nesting_from (here + 1) new) ≡ n
-nested_push most here n old new is e h =
-    one_deeper most here (nesting_from (here + 1) new) n (ap (λ xs. max most (nesting_from here xs)) (sym is) ∙ e) h (nested_here (here + 1) new)
+-- the nesting behind a symbol, where so many branches are open before it, and so many were at most so far
+pub nested_behind : (x : S.Symbol ℤ) (most here n : ℕ) (old new : List (S.Symbol ℤ)) → old ≡ x ∷ new → max most (nesting_from here old) ≡ n → here ≤ most
+    → max (max most (saved_after x here)) (nesting_from (saved_after x here) new) ≡ n
+nested_behind x most here n old new is e h =
+    one_deeper most here (saved_after x here) (nesting_from (saved_after x here) new) n (ap (λ xs. max most (nesting_from here xs)) (sym is) ∙ e) h (nested_here (saved_after x here) new)

@@ -1,6 +1,7 @@
 pub mod Closing
 pub mod Counted
 pub mod Going
+pub mod Looking
 pub mod Whole
 pub mod Extents
 pub mod Surveying

@@ -8,7 +8,9 @@ use Rattle.lsys_spec.specs.Levels as L
 use Rattle.lsys_spec.specs.Pictures.{Turtle, Stepped, Segment, PictureRefusal, NoImage, Far, at_start, modules_to, turtle_step}
 use Rattle.lsys_syntax.specs.Calls.{Lent}
 use Rattle.lsys_level.specs.Spots.{Spotted, spots_at, level_by}
-use Rattle.lsys_hom.specs.Coming.{Coming, coming}
+use Rattle.lsys_hom.specs.Coming.{Coming, coming, nothing_coming}
+use Rattle.lsys_hom.specs.Looks.{in_short, looked_at}
+use Rattle.lsys_hom.specs.declared.look.Glance.{Glance}
 use Rattle.lsys_hom.specs.Refusals.{refusal_of}
 use Rattle.lsys_turtle.specs.Ways.{IsReached, RoomyTurtle, segment_of}
 use Rattle.lsys_turtle.specs.declared.segment.Segment.{Segment as CodeSegment}
@@ -86,6 +88,14 @@ IsRefusal r refusals.Failed = ⊥
 abbrev pub IsStopped : Drawing → Refusal → Type 0
 IsStopped d e = (r : PictureRefusal) × IsRefusal r e × (d ≡ stopped r)
 
+-- one symbol of the image was looked at and passed, or its end is reached, or its refusal
+abbrev pub IsLookedAt : Way → Way → Result (Option Glance) Refusal → Type 0
+IsLookedAt old new (Ok (Some look)) =
+    (x : S.Symbol ℤ) × (looked_at look ≡ in_short x) × (old.image ≡ record { symbols = x ∷ new.image.symbols; refusal = new.image.refusal })
+    × (new.modules ≡ modules_to old.modules x)
+IsLookedAt old new (Ok None) = old.image ≡ nothing_coming
+IsLookedAt old new (Err e) = (r : I.ImageRefusal) × IsRefusal (NoImage r) e × (old.image ≡ record { symbols = []; refusal = Some r })
+
 -- one symbol of the image is passed, or its end is reached, or its refusal
 abbrev pub IsStepped : Drawing → Drawing → Result Step Refusal → Type 0
 IsStepped old new (Ok steps.Quiet) = old ≡ new
@@ -97,6 +107,12 @@ IsStepped old new (Err e) = IsStopped old e
 abbrev pub Steps : Lattice → Lent Way → Lent RoomyTurtle → Result Step Refusal → Type 0
 Steps l way turtle result =
     IsStepped (drawing l way.entry.now turtle.entry.now.turtle) (drawing l way.exit.now turtle.exit.now.turtle) result
+
+-- the turtle of a call that is lent both takes the symbol that the way passed last
+abbrev pub TakesSeen : Lattice → Lent Way → Lent RoomyTurtle → S.Symbol ℤ → Result Step Refusal → Type 0
+TakesSeen l way turtle x result =
+    let w = way.entry.now in
+    IsStepped (drawn_on w.image.refusal w.modules (turtle_step l x turtle.entry.now.turtle) (λ u. drawing l w u)) (drawing l way.exit.now turtle.exit.now.turtle) result
 
 -- symbols are passed up to one that gives a segment
 abbrev pub IsNextSegment : Drawing → Drawing → Result (Option CodeSegment) Refusal → Type 0

@@ -1,9 +1,12 @@
 //! How deep an image is nested.
+ghost use Rattle.std.specs.Prelude.{◌≡◌, ◌<◌};
+ghost use Rattle.lsys_syntax.specs.Limits.{most_image_symbols};
+ghost use Rattle.lsys_hom.specs.Looks.{looked_at};
+ghost use Rattle.lsys_turtle.specs.Ways.{saved_after};
 ghost use Rattle.lsys_out.specs.Nesting.{HasLast, IsNesting};
 
-use lsys_hom::{Image, ImageRefusal};
+use lsys_hom::{Glance, Image, ImageRefusal};
 use lsys_level::LevelView;
-use lsys_module::Symbol;
 use lsys_rules::System;
 
 /// The most branches that are open at once in the image of the last level: the room that a turtle needs to draw it. It takes no
@@ -19,15 +22,21 @@ pub fn image_nesting<W: LevelView>(view: &W, system: &System) -> Result<usize, I
     let mut image = Image::new(view, system, system.depth());
     let mut open = 0usize;
     let mut most = 0usize;
-    while let Some(symbol) = image.next()? {
-        match symbol {
-            Symbol::Push => {
-                open += 1;
-                most = most.max(open);
-            }
-            Symbol::Pop => open = open.saturating_sub(1),
-            _ => {}
-        }
+    while let Some(seen) = image.look()? {
+        open = open_behind(open, seen);
+        most = most.max(open);
     }
     Ok(most)
+}
+
+/// How many branches are open behind a symbol, where so many are before it.
+fn open_behind(before: usize, seen: Glance) -> usize
+    requires { before < most_image_symbols }
+    ensures { result ≡ saved_after (looked_at seen) before }
+{
+    match seen {
+        Glance::Push => before + 1,
+        Glance::Pop => before.saturating_sub(1),
+        _ => before,
+    }
 }

@@ -1,17 +1,17 @@
 //! A turtle's way over an image.
 ghost use Rattle.std.specs.Prelude.{◌≡◌, ◌<◌, ◌≤◌, length};
 ghost use Rattle.lsys_spec.specs.Pictures.{modules_to};
-ghost use Rattle.lsys_module.specs.Views.{symbol_of};
-ghost use Rattle.lsys_out.specs.Drawings.{IsStopped, OnNext, OnStep, far_or, stopped, BeginsDrawing, GoesToNext, Steps};
+ghost use Rattle.lsys_hom.specs.Looks.{looked_at};
+ghost use Rattle.lsys_turtle.specs.Ways.{CanStep, IsReached, IsStepOf, OnSegment, SavesAsMany};
+ghost use Rattle.lsys_out.specs.Drawings.{IsLookedAt, IsStopped, OnNext, OnStep, far_or, stopped, BeginsDrawing, TakesSeen, GoesToNext, Steps};
 ghost use Rattle.lsys_out.specs.Nesting.{CanGo, HasLast, image_nesting};
 
 use crate::refusal::PictureRefusal;
-use lsys_hom::Image;
+use lsys_hom::{Glance, Image};
 use lsys_lattice::Lattice;
 use lsys_level::LevelView;
-use lsys_module::Symbol;
 use lsys_rules::System;
-use lsys_turtle::{Far, Segment, Turtle};
+use lsys_turtle::{Act, Far, Segment, Turtle};
 use std::marker::Model;
 
 /// What one symbol of the image gives.
@@ -90,13 +90,40 @@ impl<'a, W: LevelView> Way<'a, W> {
         ensures fewer { OnStep result (length self.new.image.symbols < length self.old.image.symbols) }
         ensures room { turtle.new.room ≡ turtle.old.room }
     {
-        let symbol = match self.image.next() {
-            Ok(Some(symbol)) => symbol,
-            Ok(None) => return Ok(Step::End),
-            Err(refusal) => return Err(PictureRefusal::Image(refusal)),
-        };
-        self.modules = modules_to(self.modules, &symbol);
-        match turtle.step(&symbol) {
+        match self.look() {
+            Ok(Some(seen)) => self.go(turtle, seen),
+            Ok(None) => Ok(Step::End),
+            Err(refusal) => Err(refusal),
+        }
+    }
+
+    /// Looks at one symbol of the image, and passes it.
+    fn look(&mut self) -> Result<Option<Glance>, PictureRefusal>
+        ensures { IsLookedAt self.old self.new result }
+    {
+        match self.image.look() {
+            Ok(Some(seen)) => {
+                self.modules = modules_to(self.modules, &seen);
+                Ok(Some(seen))
+            }
+            Ok(None) => Ok(None),
+            Err(refusal) => Err(PictureRefusal::Image(refusal)),
+        }
+    }
+
+    /// Has the turtle take the symbol that was passed last.
+    fn go<T: Lattice>(
+        &mut self,
+        turtle: &mut Turtle<T>,
+        seen: Glance,
+    ) -> Result<Step, PictureRefusal>
+        requires ready { CanStep (looked_at seen) turtle.old }
+        ensures gone { TakesSeen T.shape self turtle (looked_at seen) result }
+        ensures same { OnStep result (self.new ≡ self.old) }
+        ensures saved { SavesAsMany (looked_at seen) turtle.old turtle.new }
+        ensures room { turtle.new.room ≡ turtle.old.room }
+    {
+        match take(turtle, seen) {
             Ok(Some(segment)) => Ok(Step::Drawn(segment)),
             Ok(None) => Ok(Step::Quiet),
             Err(Far) => Err(self.refusal()),
@@ -122,12 +149,29 @@ impl<'a, W: LevelView> Way<'a, W> {
 }
 
 /// How many modules there are up to a symbol, where so many stand before it.
-fn modules_to(modules: u32, symbol: &Symbol) -> u32
+fn modules_to(modules: u32, seen: &Glance) -> u32
     requires { modules < u32.MAX }
-    ensures { result ≡ modules_to modules (symbol_of symbol.now) }
+    ensures { result ≡ modules_to modules (looked_at seen.now) }
 {
-    match symbol {
-        Symbol::Module(_) => modules + 1,
+    match seen {
+        Glance::Module { .. } => modules + 1,
         _ => modules,
     }
+}
+
+/// Has a turtle take a symbol that is looked at, as [`Turtle::step`].
+fn take<T: Lattice>(turtle: &mut Turtle<T>, seen: Glance) -> Result<Option<Segment>, Far>
+    requires ready { CanStep (looked_at seen) turtle.old }
+    ensures stepped { IsStepOf T.shape (looked_at seen) turtle.old turtle.new result }
+    ensures saved { SavesAsMany (looked_at seen) turtle.old turtle.new }
+    ensures room { turtle.new.room ≡ turtle.old.room }
+    ensures reached { OnSegment result IsReached }
+{
+    match seen {
+        Glance::Push => turtle.save(),
+        Glance::Pop => turtle.restore(),
+        Glance::Cut => {}
+        Glance::Module { name, first } => return turtle.act(Act::by(name, first)),
+    }
+    Ok(None)
 }

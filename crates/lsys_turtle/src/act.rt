@@ -1,11 +1,12 @@
 //! What a module has a turtle do.
-ghost use Rattle.std.specs.Prelude.{◌≡◌};
+ghost use Rattle.std.specs.Prelude.{◌≡◌, ◌∷◌, []};
 ghost use Rattle.lsys_spec.specs.Pictures.{act, pen_width};
 ghost use Rattle.lsys_module.specs.Views.{module_name};
 ghost use Rattle.lsys_turtle.specs.Ways.{act_of};
 
 use lsys_lattice::Turn;
 use lsys_module::Module;
+use lsys_text::Name;
 
 /// What a turtle does at a symbol.
 pub enum Act {
@@ -33,13 +34,19 @@ impl Act {
     pub fn of(symbol: &Module) -> Act
         ensures { act_of result ≡ act (module_name symbol.now.name) symbol.now.params }
     {
-        let text = symbol.name.text();
-        let letter = text.as_bytes()[0];
         let first = match symbol.params.values().first() {
             Some(value) => *value,
             None => 1,
         };
-        match letter {
+        Act::by(symbol.name, first)
+    }
+
+    /// What a module of this name has a turtle do, where this is its first parameter, or 1 stands for it.
+    pub fn by(name: Name, first: i64) -> Act
+        ensures { act_of result ≡ act (module_name name) (first ∷ []) }
+    {
+        let text = name.text();
+        match text.as_bytes()[0] {
             b'F' => Act::Draws(first),
             b'f' => Act::Moves(first),
             b'+' => Act::Turns(Turn::Left, first),

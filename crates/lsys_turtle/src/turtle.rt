@@ -78,7 +78,7 @@ impl<T: Lattice> Turtle<T> {
     }
 
     /// Saves the pose, for which there is room.
-    fn save(&mut self)
+    pub fn save(&mut self)
         requires { length self.old.turtle.saved < self.old.room }
         ensures pose { self.new.turtle.pose ≡ self.old.turtle.pose }
         ensures saved { self.new.turtle.saved ≡ self.old.turtle.pose ∷ self.old.turtle.saved }
@@ -92,7 +92,7 @@ impl<T: Lattice> Turtle<T> {
     }
 
     /// Restores the pose that was saved last.
-    fn restore(&mut self)
+    pub fn restore(&mut self)
         ensures turtle { self.new.turtle ≡ pose_restored self.old.turtle self.old.turtle.saved }
         ensures room { self.new.room ≡ self.old.room }
     {
@@ -101,8 +101,8 @@ impl<T: Lattice> Turtle<T> {
         }
     }
 
-    /// Does what a module has it do.
-    fn act(&mut self, act: Act) -> Result<Option<Segment>, Far>
+    /// Does what a module has it do. `Far` is answered as by [`Turtle::step`].
+    pub fn act(&mut self, act: Act) -> Result<Option<Segment>, Far>
         ensures acted { acted T.shape (act_of act) self.old.turtle ≡ stepped_of result self.new.turtle }
         ensures saved { self.new.turtle.saved ≡ self.old.turtle.saved }
         ensures room { self.new.room ≡ self.old.room }

@@ -1,18 +1,18 @@
-use Rattle.std.proofs.Common.{◌≡◌, [], ◌∷◌, ◌∙◌, ◌+◌, Ok, Some, ap, length, max, subst, sym, arith}
+use Rattle.std.proofs.Common.{◌≡◌, [], ◌∷◌, ◌∙◌, Ok, Some, ap, length, max, subst, sym, arith}
 use Rattle.std.proofs.lemmas.Result.{err_from_is_err_and}
 use Rattle.std.proofs.Math.Nat.{zero-max}
-use Rattle.lsys_syntax.specs.Strings as S
-use Rattle.lsys_module.specs.Views.{symbol_of}
 use Rattle.lsys_level.specs.Spots.{spots_at, level_by}
-use Rattle.lsys_hom.specs.Calls.{IsNext}
+use Rattle.lsys_hom.specs.Looks.{IsNextLook}
 use Rattle.lsys_hom.specs.Coming.{Coming, coming}
 use Rattle.lsys_out.specs.Drawings.{last_image}
 use Rattle.lsys_out.specs.Nesting.{image_nesting, nesting_from}
-use Rattle.lsys_out.proofs.Going.{few_begin, nested_push}
+use Rattle.lsys_out.proofs.Going.{few_begin, nested_behind}
+use Rattle.lsys_out.proofs.Looking.{saved_few, short_saved}
+use Rattle.lsys_turtle.specs.Ways.{saved_after}
 use Rattle.lsys_out.proofs.nesting.image_nesting.Goals as goal
 
-pub loop-symbol-init : goal.loop-symbol-init
-loop-symbol-init g c =
+pub loop-seen-init : goal.loop-seen-init
+loop-seen-init g c =
     let s = c.args.system.now in
     let levels = g.W.LevelView.levels c.args.view.now in
     let i = c.new-image.result in
@@ -24,22 +24,32 @@ loop-symbol-init g c =
       few = few_begin s levels i is;
     }
 
-pub loop-symbol-preserved-in-Push : goal.loop-symbol-preserved-in-Push
-loop-symbol-preserved-in-Push g c =
-    let l = c.loop-symbol in
-    let new = c.next.new.self in
-    let next : IsNext l.image new (Ok (Some c.in-Some.symbol)) = subst (λ o. IsNext l.image new (Ok o)) c.in-Some.is c.in_ok-symbol.ensures in
-    let is : l.image.symbols ≡ S.Push ∷ new.symbols = ap (λ (i : Coming). i.symbols) next ∙ ap (λ x. symbol_of x ∷ new.symbols) c.in-Push.is in
+pub open_behind-open-requires : goal.open_behind-open-requires
+open_behind-open-requires g c =
+    let l = c.loop-seen in
+    let new = c.look.new.self in
+    let next : IsNextLook l.image new (Ok (Some c.in-Some.seen)) = subst (λ o. IsNextLook l.image new (Ok o)) c.in-Some.is c.in_ok-seen.ensures in
+    omega (arith, l.invariant.few, ap (λ (i : Coming). length i.symbols) next.2)
+
+pub loop-seen-preserved : goal.loop-seen-preserved
+loop-seen-preserved g c =
+    let l = c.loop-seen in
+    let new = c.look.new.self in
+    let next : IsNextLook l.image new (Ok (Some c.in-Some.seen)) = subst (λ o. IsNextLook l.image new (Ok o)) c.in-Some.is c.in_ok-seen.ensures in
+    let x = next.0 in
+    let is : l.image.symbols ≡ x ∷ new.symbols = ap (λ (i : Coming). i.symbols) next.2 in
     let n = image_nesting c.args.system.now (g.W.LevelView.levels c.args.view.now) in
-    let most : c.max-most.result ≡ max l.most (l.open + 1) = c.max-most.ensures in
+    let behind : c.open_behind-open.result ≡ saved_after x l.open = c.open_behind-open.ensures ∙ ap (λ y. saved_after y l.open) next.1 ∙ short_saved x l.open in
+    let most : c.max-most.result ≡ max l.most c.open_behind-open.result = c.max-most.ensures in
     record {
-      most = subst (λ m. max m (nesting_from (l.open + 1) new.symbols) ≡ n) (sym most) (nested_push l.most l.open n l.image.symbols new.symbols is l.invariant.most l.invariant.below);
+      most = subst (λ m. max m (nesting_from c.open_behind-open.result new.symbols) ≡ n) (sym most)
+          (subst (λ k. max (max l.most k) (nesting_from k new.symbols) ≡ n) (sym behind) (nested_behind x l.most l.open n l.image.symbols new.symbols is l.invariant.most l.invariant.below));
       below = omega (arith, most);
-      refusal = sym (ap (λ (i : Coming). i.refusal) next) ∙ l.invariant.refusal;
-      few = omega (arith, l.invariant.few, ap length is);
+      refusal = sym (ap (λ (i : Coming). i.refusal) next.2) ∙ l.invariant.refusal;
+      few = omega (arith, l.invariant.few, ap length is, behind, saved_few x l.open);
     }
 
-pub returns-in_err-symbol : goal.returns-in_err-symbol
-returns-in_err-symbol g c =
+pub returns-in_err-seen : goal.returns-in_err-seen
+returns-in_err-seen g c =
     let p = err_from_is_err_and c.from_residual.result c.from_residual.ensures.1 in
-    rw (p.1, p.2) (sym c.loop-symbol.invariant.refusal ∙ ap (λ (i : Coming). i.refusal) c.in_err-symbol.ensures.0)
+    rw (p.1, p.2) (sym c.loop-seen.invariant.refusal ∙ ap (λ (i : Coming). i.refusal) c.in_err-seen.ensures.0)
