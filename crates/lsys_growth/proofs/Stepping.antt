@@ -1,25 +1,40 @@
 -- Turns and single steps.
-use Rattle.std.proofs.Common.{◌≡◌, ℕ, zero, suc, ◌+◌, ◌-◌, ◌*◌, ◌<◌, ◌≤◌, ◌/◌, ◌%◌, ◌^◌, List, Option, length, ap, sym, ◌∙◌, subst, arith}
+use Rattle.std.proofs.Common.{◌≡◌, ℕ, zero, suc, ◌+◌, ◌-◌, ◌*◌, ◌<◌, ◌≤◌, ◌/◌, ◌%◌, List, Option, length, refl, ap, sym, ◌∙◌, subst, arith}
 use Rattle.std.proofs.Math.Nat.{div-add-mod, mod-lt}
 use Rattle.lsys_syntax.specs.Strings.{ModuleName}
 use Rattle.lsys_spec.specs.Systems.{System}
 use Rattle.lsys_matrix.specs.Capped.{capped}
-use Rattle.lsys_matrix.specs.Sums.{row_after, repeated, steps_product}
+use Rattle.lsys_matrix.specs.Sums.{row_after, repeated, product, steps_product}
 use Rattle.lsys_matrix.specs.Matrices.{Square, IsRow, IsMatrix, IsRowTimes, IsProduct}
+use Rattle.lsys_matrix.proofs.Sums.{row_by_product}
 use Rattle.lsys_matrix.proofs.Powers.{StandsFor, steps_stand, run_whole}
 use Rattle.lsys_matrix.proofs.Squaring.{times_row, times_matrix}
 use Rattle.lsys_matrix.specs.Counts.{step_matrix, first_counts, counts_after}
 use Rattle.lsys_matrix.proofs.Told.{steps_again}
 use Rattle.lsys_growth.specs.Steps.{turn_matrix, AfterTurns, AfterSteps, FewProductsForTurns, FewProductsForLevel}
 
--- one more step of a turn
-pub next_product : (k : ℕ) (a : ℕ → ℕ → ℕ → ℕ) (l : ℕ) (turn step m : Square) → 1 ≤ l → IsMatrix k (steps_product k a (l - 1)) turn → IsMatrix k (a l) step → IsProduct turn step m → IsMatrix k (steps_product k a (l + 1 - 1)) m
-next_product k a zero turn step m h t s p = absurd (omega arith)
-next_product k a (suc l) turn step m h t s p =
+-- a matrix behind those of the steps before step l
+abbrev with_before : ℕ → (ℕ → ℕ → ℕ → ℕ) → ℕ → (ℕ → ℕ → ℕ) → ℕ → ℕ → ℕ
+with_before k a zero b = b
+with_before k a (suc l) b = product k (steps_product k a l) b
+
+-- the matrix of the steps from step l on, up to the last
+pub record IsRest (k : ℕ) (a : ℕ → ℕ → ℕ → ℕ) (last l : ℕ) (m : Square) : Type 0 where
+  pub b : ℕ → ℕ → ℕ
+  pub is : IsMatrix k b m
+  pub whole : (i j : ℕ) → with_before k a l b i j ≡ steps_product k a last i j
+
+-- one more step in front
+pub step_before : (k : ℕ) (a : ℕ → ℕ → ℕ → ℕ) (last l : ℕ) (turn step m : Square) → 0 < l → IsRest k a last l turn → IsMatrix k (a (l - 1)) step → IsProduct step turn m → IsRest k a last (l - 1) m
+step_before k a last zero turn step m some r s p = absurd (omega arith)
+step_before k a last (suc l) turn step m some r s p =
     let e : suc l - 1 ≡ l = omega arith in
-    let f : suc l ≡ suc l + 1 - 1 = omega arith in
-    subst (λ (n : ℕ). IsMatrix k (steps_product k a n) m) f
-    (times_matrix k (steps_product k a l) (a (suc l)) turn step m (subst (λ (n : ℕ). IsMatrix k (steps_product k a n) turn) e t) s p)
+    subst (λ (n : ℕ). IsRest k a last n m) (sym e)
+    (record { b = product k (a l) r.b; is = times_matrix k (a l) r.b step turn m (subst (λ (n : ℕ). IsMatrix k (a n) step) e s) r.is p; whole = λ i j. in_front l i j ∙ r.whole i j })
+  where
+    in_front : (l i j : ℕ) → with_before k a l (product k (a l) r.b) i j ≡ product k (steps_product k a l) r.b i j
+    in_front zero i j = refl
+    in_front (suc l) i j = sym (row_by_product k (steps_product k a l i) (a (suc l)) r.b j)
 
 -- one more single step
 pub next_run : (k : ℕ) (a : ℕ → ℕ → ℕ → ℕ) (l : ℕ) (v : ℕ → ℕ) (row r : List (Option ℕ)) (step : Square) → IsRow k (row_after k a 0 l v) row → IsMatrix k (a l) step → IsRowTimes row step r → IsRow k (row_after k a 0 (l + 1) v) r

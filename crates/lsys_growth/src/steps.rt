@@ -68,7 +68,8 @@ fn after_turns<P: Ledger>(
     power_times(alloc, first, turn, turns, products)
 }
 
-// The matrix of a turn through the schedule: the product of those of its steps.
+// The matrix of a turn through the schedule: the product of those of its steps. The last is taken first, so that the matrix
+// of a step, which has few counts that aren't 0, stands in front of each product.
 fn turn<P: Ledger>(
     alloc: Global,
     system: &System,
@@ -78,10 +79,12 @@ fn turn<P: Ledger>(
     ensures product { IfOk result (IsTurn system.now (map module_name letters.now)) }
     ensures count { products.new ≤ products.old + length system.now.schedule }
 {
-    let mut turn = step(alloc, system, letters, 0)?;
-    for level in 1..system.schedule().len() as u32 {
+    let mut level = system.schedule().len() as u32 - 1;
+    let mut turn = step(alloc, system, letters, level)?;
+    'back: while level > 0 {
+        level -= 1;
         let step = step(alloc, system, letters, level)?;
-        turn = multiply(alloc, &turn, &step, products)?;
+        turn = multiply(alloc, &step, &turn, products)?;
     }
     Ok(turn)
 }

@@ -52,6 +52,15 @@ le_or_above c x = by (nat_lt x c) refl
     by true e = inr (grind (arith, nat_tests))
     by false e = inl (grind (arith, nat_tests))
 
+-- a sum only rises
+pub sum_rises : (k i : ℕ) (f : ℕ → ℕ) → i ≤ k → sum_to i f ≤ sum_to k f
+sum_rises zero i f h = let e : i ≡ 0 = omega arith in rw e (omega arith)
+sum_rises (suc k) i f h = by (le_or_above i k) (λ l. sum_rises k i f l)
+  where
+    by : (i ≤ k) ⊎ (k < i) → (i ≤ k → sum_to i f ≤ sum_to k f) → sum_to i f ≤ sum_to (suc k) f
+    by (inl l) rest = let e = rest l in omega (arith, e)
+    by (inr l) rest = let e : i ≡ suc k = omega arith in rw e (omega arith)
+
 -- the first number is past the bound
 past : (c x y : ℕ) → c ≤ x → min (x * y) c ≡ min (c * min y c) c
 past c x zero h = let e : min 0 c ≡ 0 = omega arith in rw e (omega arith)

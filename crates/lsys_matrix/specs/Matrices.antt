@@ -1,7 +1,7 @@
 -- The matrices and rows of the code, whose entries stop at 2^128, as those of the definitions.
 use Rattle.std.specs.Prelude.{◌≡◌, ◌<◌, ◌+◌, ◌*◌, ℕ, Option, None, List, length, get_or}
 use Rattle.lsys_matrix.specs.Capped.{capped, value_of}
-use Rattle.lsys_matrix.specs.Sums.{row_by, repeated}
+use Rattle.lsys_matrix.specs.Sums.{sum_to, row_by, repeated}
 
 -- a matrix of so many rows and columns, row by row
 pub record Square : Type 0 where
@@ -22,6 +22,11 @@ pub record IsRow (k : ℕ) (v : ℕ → ℕ) (row : List (Option ℕ)) : Type 0 
 pub record IsMatrix (k : ℕ) (a : ℕ → ℕ → ℕ) (m : Square) : Type 0 where
   pub size : m.size ≡ k
   pub entries : (i j : ℕ) → i < k → j < k → entry m i j ≡ capped (a i j)
+
+-- the places of a row that a sum of its products needs: where it is 0, so is the product
+pub record AreNeeded (row : List (Option ℕ)) (places : List ℕ) : Type 0 where
+  pub within : (k : ℕ) → k < length places → get_or places k 0 < length row
+  pub sums : (f : ℕ → ℕ) → ((i : ℕ) → place row i ≡ 0 → f i ≡ 0) → sum_to (length places) (λ k. f (get_or places k 0)) ≡ sum_to (length row) f
 
 -- the row times the matrix stands behind the old entries
 pub record AddsRow (row : List (Option ℕ)) (m : Square) (old new : List (Option ℕ)) : Type 0 where

@@ -3,9 +3,9 @@
 ghost use Rattle.std.specs.Prelude.{◌≡◌, ℕ, ◌+◌, ◌*◌, ◌<◌, length, IfOk, OnOk};
 ghost use Rattle.lsys_matrix.specs.Capped.{capped, value_of};
 ghost use Rattle.lsys_matrix.specs.Sums.{row_by};
-ghost use Rattle.lsys_matrix.specs.Matrices.{Square, place, entry, AddsRow, IsProduct};
+ghost use Rattle.lsys_matrix.specs.Matrices.{Square, place, entry, AreNeeded, AddsRow, IsProduct};
 
-use crate::capped::{plus, times};
+use crate::capped::{is_zero, plus_times};
 use crate::steps::Steps;
 use std::alloc::{AllocError, Global};
 use std::marker::Model;
@@ -44,21 +44,39 @@ impl Matrix {
     }
 }
 
-// A row times a column.
-fn cell(row: &[Option<u128>], m: &Matrix, column: usize) -> Option<u128>
+// The places of a row that aren't 0.
+fn needed_places(alloc: Global, row: &[Option<u128>]) -> Result<Vec<usize>, AllocError>
+    ensures { IfOk result (λ places. AreNeeded row.now places.items) }
+{
+    let mut places = Vec::new(alloc);
+    for (i, x) in row.iter().enumerate() {
+        if !is_zero(*x) {
+            places.push(i)?;
+        }
+    }
+    Ok(places)
+}
+
+// A row times a column. A sum that is past 128 bits stays so.
+fn cell(row: &[Option<u128>], places: &[usize], m: &Matrix, column: usize) -> Option<u128>
     requires size { length row.now ≡ m.now.size }
     requires within { column < m.now.size }
+    requires needed { AreNeeded row.now places.now }
     ensures { value_of result ≡ capped (row_by m.now.size (place row.now) (entry m.now) column) }
 {
-    let mut sum = Some(0);
-    for (i, x) in row.iter().enumerate() {
-        sum = plus(sum, times(*x, m.entries[i * m.size + column]));
+    let mut sum = 0;
+    for i in places.iter() {
+        match plus_times(sum, row[*i], m.entries[*i * m.size + column]) {
+            Some(more) => sum = more,
+            None => return None,
+        }
     }
-    sum
+    Some(sum)
 }
 
 // Puts the row times the matrix behind some entries.
 pub(crate) fn push_row(
+    alloc: Global,
     entries: &mut Vec<Option<u128>>,
     row: &[Option<u128>],
     m: &Matrix,
@@ -66,8 +84,9 @@ pub(crate) fn push_row(
     requires { length row.now ≡ m.now.size }
     ensures { OnOk result (AddsRow row.now m.now entries.old.items entries.new.items) }
 {
+    let places = needed_places(alloc, row)?;
     for column in 0..m.size {
-        entries.push(cell(row, m, column))?;
+        entries.push(cell(row, &places, m, column))?;
     }
     Ok(())
 }
@@ -91,7 +110,7 @@ pub fn multiply<P: Ledger>(
     let mut entries = Vec::new(alloc);
     for i in 0..a.size {
         let row = &a.entries[i * a.size..i * a.size + a.size];
-        push_row(&mut entries, row, b)?;
+        push_row(alloc, &mut entries, row, b)?;
     }
     Ok(Matrix {
         size: a.size,

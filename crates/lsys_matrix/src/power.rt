@@ -25,7 +25,7 @@ pub fn row_times<P: Ledger>(
 {
     products.tick();
     let mut sums = Vec::new(alloc);
-    push_row(&mut sums, row, m)?;
+    push_row(alloc, &mut sums, row, m)?;
     Ok(sums)
 }
 
