@@ -26,8 +26,11 @@ fn take_next<T: Lattice, W: LevelView>(
     }
 }
 
+/// How many children of a node are grouped in one piece, where it has more.
+const GROUP: usize = 64;
+
 /// Takes the images of the last level's symbols below a node, which is so many levels above it: a
-/// piece for each module on the way.
+/// piece for each module on the way, and for each group of a long row of children.
 ///
 /// The nodes only group the symbols. Which these are, the level tells.
 pub(crate) fn take_below<T: Lattice, A: Kept>(
@@ -45,13 +48,17 @@ pub(crate) fn take_below<T: Lattice, A: Kept>(
     if levels == 0 {
         return take_next(walk, keeper);
     }
+    let kids = forest.children(node);
+    let long = kids.len() > GROUP;
     let wanted = matches!(forest.symbol(node), Sight::Module { .. });
     let depth = keeper.depth();
     keeper.begin_where(wanted)?;
-    'kids: for kid in forest.children(node) {
+    let inside = keeper.depth();
+    'kids: for (place, kid) in kids.iter().enumerate() {
+        keeper.next_where(long && place % GROUP == 0, inside)?;
         take_below(forest, *kid, levels - 1, walk, keeper)?;
     }
-    keeper.end_where(wanted, depth);
+    keeper.end_where(wanted || long, depth);
     Ok(())
 }
 

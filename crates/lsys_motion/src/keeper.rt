@@ -232,6 +232,15 @@ impl<T: Lattice> Keeper<T> {
         }
     }
 
+    /// Pieces end and another begins, where a next one is wanted.
+    pub(crate) fn next_where(&mut self, wanted: bool, depth: usize) -> Result<(), AllocError>
+        requires { HasNext T.shape [] self.old }
+        ensures { IfOk result (λ _. Takes T.shape [] self.old self.new) }
+    {
+        self.end_where(wanted, depth);
+        self.begin_where(wanted)
+    }
+
     /// Takes the image of one symbol of the level: a piece, if it isn't one symbol.
     pub(crate) fn take_part(&mut self, part: &mut Part<'_>) -> Result<(), AllocError>
         requires sound { IsSoundPart part.old }
