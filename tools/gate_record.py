@@ -15,6 +15,8 @@ Step = tuple[str, str, str]
 PROOF, TESTS, GROUND, EDIT = "proof", "tests", "ground of its edits", "must-fail edit"
 KINDS = (PROOF, TESTS, GROUND, EDIT)
 DEAR_EDIT = 30
+# A crate is named that takes so many times what docs/GATE.md tells of it, and so many seconds more, since times are good to a second or two a step.
+MOST_TIMES, MOST_MORE = 1.1, 30
 LINE = re.compile(r"^times: +(\d+) s  (\w+): (%s)(?: (\S+))?" % "|".join(KINDS))
 
 
@@ -58,6 +60,22 @@ def row_of(taken: Mapping[Step, float], crate: str) -> list[str]:
     count = sum(1 for name, kind, _ in taken if name == crate and kind == EDIT)
     return ["`%s`" % crate, minutes(proof), minutes(tests), minutes(ground), "%s (%d)" % (minutes(edits), count) if count else "",
             minutes(proof + tests + ground + edits)]
+
+
+def told_by(page: str) -> dict[str, float]:
+    """The seconds of each crate by the table of docs/GATE.md."""
+    return {name: 60 * float(together) for name, together in re.findall(r"^\| `(\w+)` \|.*\| ([\d.]+) \|$", page, re.M)}
+
+
+def grown(taken: Mapping[Step, float], told: Mapping[str, float]) -> list[str]:
+    """Of each crate all of whose steps are recorded, and that took more than a tenth more than is told of it, a line."""
+    cut = {crate for crate, _, _ in lacking(taken)}
+    lines = []
+    for crate in crates():
+        now, before = sum(sum_of(taken, crate, kind) for kind in KINDS), told.get(crate)
+        if crate not in cut and before and now > max(MOST_TIMES * before, before + MOST_MORE):
+            lines.append("times: %s grew: %s minutes, and docs/GATE.md tells %s" % (crate, minutes(now), minutes(before)))
+    return lines
 
 
 def part_of(taken: Mapping[Step, float]) -> str:

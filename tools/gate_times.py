@@ -4,9 +4,10 @@ usage: tools/gate_times COMMAND [WORD ..]
        tools/gate_times --page [RECORD ..]
 
 A step is the proof of a crate, the proof of its tests, what its must-fail edits stand on, or one of these edits, which is told by the
-text that it makes. The five dearest steps are said, and each edit that took more than 30 seconds; all steps are listed in
-build/gate_times.txt (GATE_TIMES_ALL=1 says them all), and where no step is missing in build/gate_times_whole.txt too. The times are
-read off the prover's processes once a second, so they are good to a second or two a process. It ends with the command's status.
+text that it makes. The five dearest steps are said, each edit that took more than 30 seconds, and each crate that took more than a
+tenth more than docs/GATE.md tells of it; all steps are listed in build/gate_times.txt (GATE_TIMES_ALL=1 says them all), and where no
+step is missing in build/gate_times_whole.txt too. The times are read off the prover's processes once a second, so they are good to a
+second or two a process. It ends with the command's status.
 
 --page writes the table of docs/GATE.md from the record of the last whole run, or from the given ones where a run was made in pieces.
 """
@@ -20,13 +21,14 @@ import sys
 import time
 from collections.abc import Mapping
 
-from gate_record import DEAR_EDIT, EDIT, GROUND, PROOF, TESTS, Step, lacking, part_of, taken_in
+from gate_record import DEAR_EDIT, EDIT, GROUND, PROOF, TESTS, Step, grown, lacking, part_of, taken_in, told_by
 from pages import put_part
 from processes import Process, below
 from programs import TOP
 from telling import give_up
 
 MOST = 5
+PAGE = os.path.join(TOP, "docs", "GATE.md")
 LIST = os.path.join(TOP, "build", "gate_times.txt")
 WHOLE = os.path.join(TOP, "build", "gate_times_whole.txt")
 
@@ -151,5 +153,5 @@ def main() -> int:
     keep(LIST, every)
     if not lacking(taken):
         keep(WHOLE, every)
-    print("\n".join(every if "GATE_TIMES_ALL" in os.environ else said), flush=True)
+    print("\n".join((every if "GATE_TIMES_ALL" in os.environ else said) + grown(taken, told_by(text_of(PAGE)))), flush=True)
     return status

@@ -5,7 +5,7 @@ from __future__ import annotations
 import unittest
 
 from dist import blocks_of, without_claims
-from gate_record import minutes, sum_of, taken_in
+from gate_record import edits_of, grown, minutes, sum_of, taken_in, told_by
 from lineage import kept, symbols
 from pages import table, with_part
 from proved import plain, rows_of
@@ -45,6 +45,14 @@ class Records(unittest.TestCase):
 
     def test_minutes(self) -> None:
         self.assertEqual([minutes(0), minutes(90), minutes(3600)], ["", "1.5", "60.0"])
+
+    def test_a_crate_that_grew(self) -> None:
+        told = told_by("| crate | together |\n| `lsys_io` | 2.0 |  | 1.9 (5) | 5.0 |\n| `lsys_cli` | 0.4 |  | 1.0 |\n")
+        self.assertEqual(told, {"lsys_io": 300, "lsys_cli": 60})
+        whole = {("lsys_io", "proof", ""): 300.0, **{("lsys_io", "must-fail edit", edit): 10.0 for edit in edits_of("lsys_io")}}
+        self.assertEqual(grown(whole, told), ["times: lsys_io grew: 5.8 minutes, and docs/GATE.md tells 5.0"])
+        self.assertEqual(grown({**whole, ("lsys_io", "proof", ""): 275.0}, told), [])
+        self.assertEqual(grown({("lsys_io", "proof", ""): 900.0}, told), [])
 
 
 class Pages(unittest.TestCase):
