@@ -2,7 +2,7 @@
 
 usage: conformance/costs [PART ..] [--program PATH] [--sizes 1000,10000,100000] [--write]
 
-The parts are derive, edits, pictures, motions, lines and memory; without one all are measured. The program is bin/lsys by default, and
+The parts are derive, edits, anew, pictures, motions, lines and memory; without one all are measured. The program is bin/lsys by default, and
 can't be one with the address sanitizer, with which callgrind does not go. Each figure of instructions is the difference between two runs
 that differ by one line, so what every run costs is taken off. With --write each table is put into docs/COSTS.md too, in place of the one
 of its part. It is no part of the gate, and takes some minutes.
@@ -17,6 +17,7 @@ import subprocess
 import tempfile
 from collections.abc import Callable, Sequence
 
+from anew import ratios
 from pages import put_part
 from programs import PROVED, TOP, checked
 from telling import Words, give_up
@@ -132,6 +133,15 @@ def edits(costs: Costs, sizes: list[int]) -> None:
             costs.row(name, change, *figures)
 
 
+def beside_anew(costs: Costs, sizes: list[int]) -> None:
+    costs.head("Instructions of an edit, of its undo and of its redo, in those of a first derivation of the system that stands then; the dearest "
+               "edits first.", "system", "edit", "edit", "undo", "redo")
+    tried = list(ratios(costs.program))
+    edits = [tried[at:at + 3] for at in range(0, len(tried), 3)]
+    for three in sorted(edits, key=lambda three: -three[0].of_anew):
+        costs.row(three[0].system, three[0].kind, *["%.2f" % one.of_anew for one in three])
+
+
 def as_it_is(lines: list[bytes], unit: bytes) -> list[bytes]:
     return lines
 
@@ -235,7 +245,7 @@ def memory(costs: Costs, sizes: list[int]) -> None:
                       "%.1f" % (heap / 1e6), "%.1f" % (resident / 1e6), "%.2f" % seconds)
 
 
-PARTS = {"derive": derive, "edits": edits, "pictures": pictures, "motions": motions, "lines": lines, "memory": memory}
+PARTS = {"derive": derive, "edits": edits, "anew": beside_anew, "pictures": pictures, "motions": motions, "lines": lines, "memory": memory}
 
 
 def main() -> int:

@@ -1,4 +1,4 @@
-"""Compares the segments of eight curves with places made by formulas, and what nesting and depth cost at two sizes.
+"""Compares the segments of eight curves with places made by formulas, what nesting and depth cost at two sizes, and edits with deriving anew.
 
 usage: conformance/curves [--program PATH]
 
@@ -7,7 +7,8 @@ the digits of a segment's number, in whole numbers and without rewriting anythin
 gasket by its heading, a sum over the digits; the dragon's heading by the changes between binary digits; Hilbert's and Peano's
 curves by their known maps from a number to a place; the Cantor set by ternary digits that are 0 or 2.
 
-The rows on cost are those of `squares.py`: instructions for each symbol may not grow with a script's size. They want valgrind.
+The rows on cost are those of `squares.py`: instructions for each symbol may not grow with a script's size; and those of `anew.py`: no edit,
+undo or redo costs more than a fifth more than to derive anew what it leaves, but those that are named there. They want valgrind.
 """
 
 from __future__ import annotations
@@ -17,6 +18,7 @@ import re
 import subprocess
 from collections.abc import Callable, Iterable, Iterator, Sequence
 
+from anew import dear_edits
 from programs import TOP, program_of
 from squares import squares
 from telling import Words
@@ -145,5 +147,5 @@ def main() -> int:
         agree = len(pictures) == len(depths) and all(picture == segments(depth) for depth, picture in zip(depths, pictures))
         failed += not agree
         print("%-20s %s at depths 0 to %d, %d segments in all" % (name, "agrees" if agree else "DIFFERS", greatest, sum(map(len, pictures))))
-    failed += squares(program)
+    failed += squares(program) + dear_edits(program)
     return 1 if failed else 0
