@@ -5,9 +5,10 @@ use Rattle.std.proofs.lemmas.Bool.{cases_eq}
 use Rattle.std.proofs.lemmas.List.{take-take, drop-drop, take_at, get_or-set_same, get_or-set_other}
 use Rattle.std.proofs.lemmas.List.Sums.{sum_by-set, sum_by_push}
 use Rattle.std.proofs.lemmas.Slice.{between_is, between-put_mid, take-put_mid_below, drop-put_mid}
+use Rattle.std.proofs.Math.Seq.{drop-nil, take-nil}
 use borrow.Rule.Slice.PartMut.{put_mid}
 use Rattle.lsys_reads.specs.declared.head.Head.{Head}
-use Rattle.lsys_reads.specs.Rows.{tag_row, OtherRowsStay}
+use Rattle.lsys_reads.specs.Rows.{Row, tag_row, OtherRowsStay}
 use Rattle.lsys_reads.specs.Layout.{empty_head, row_in_cells, rows_of, wanted, head_at, HaveApartCells, IsLaid, AreSoundRows, ComesToPlace}
 
 -- the row of a tag is that of its head
@@ -16,6 +17,13 @@ tag_row_is cells [] zero = refl
 tag_row_is cells [] (suc k) = refl
 tag_row_is cells (h ∷ heads) zero = refl
 tag_row_is cells (h ∷ heads) (suc k) = tag_row_is cells heads k
+
+-- where there are no cells no row has tags
+pub none_in_cells : (cells : List ℕ) (heads : List Head) (k : ℕ) → length cells ≡ 0 → (tag_row (rows_of cells heads) k).tags ≡ []
+none_in_cells [] heads k _ =
+    let head = head_at heads k in
+    ap (λ (r : Row). r.tags) (tag_row_is [] heads k) ∙ ap (take (head.start + head.len - head.start)) (drop-nil head.start) ∙ take-nil (head.start + head.len - head.start)
+none_in_cells (x ∷ cells) heads k none = absurd (omega (arith, none))
 
 -- the cells from `start` on are these now, and all others stay
 pub record IsWritten (old new : List ℕ) (start : ℕ) (list : List ℕ) : Type 0 where

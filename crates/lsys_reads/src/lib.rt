@@ -94,8 +94,10 @@ impl Reads {
         self.by_seen.tags(seen)
     }
 
-    /// Whether any tag may have settled readers. It costs one step, and is asked where the answer only tells what costs less.
-    pub fn has_rows(&self) -> bool {
+    /// Whether any tag may have settled readers. It costs one step.
+    pub fn has_rows(&self) -> bool
+        ensures { result ≡ false → (reader seen : ℕ) → is_settled self.now reader seen ≡ false }
+    {
         self.by_seen.has_cells()
     }
 

@@ -2,7 +2,7 @@
 //!
 //! All rows stand in one vector of cells. A row is placed when it gets tags that its cells have no room for: at the end,
 //! with as many cells as it has tags and is owed.
-ghost use Rattle.std.specs.Prelude.{◌≡◌, ◌<◌, ◌≤◌, ◌+◌, List, [], length, OnOk, OnErr};
+ghost use Rattle.std.specs.Prelude.{◌≡◌, ◌<◌, ◌≤◌, ◌+◌, ℕ, List, [], length, OnOk, OnErr, false};
 ghost use Rattle.lsys_reads.specs.Rows.{Row, tag_row, few, IsRising, SameRows, SweepsRow, PutsTag, Reserves};
 
 use crate::head::{Head, kept_for};
@@ -138,7 +138,9 @@ impl Table {
     }
 
     /// Whether any row has cells: where none has, no tag has a row.
-    pub(crate) fn has_cells(&self) -> bool {
+    pub(crate) fn has_cells(&self) -> bool
+        ensures { result ≡ false → (tag : ℕ) → (tag_row self.now tag).tags ≡ [] }
+    {
         !self.cells.is_empty()
     }
 
