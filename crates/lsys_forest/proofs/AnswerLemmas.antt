@@ -5,7 +5,7 @@ use Rattle.std.proofs.Math.Path.{fun_ext}
 use Rattle.std.proofs.lemmas.Grind.{common_steps}
 use Rattle.std.specs.Option.{option_and_then}
 use Rattle.std.proofs.lemmas.Bool.{cases_eq}
-use Rattle.std.proofs.lemmas.Option.{none-some, slice_get_past}
+use Rattle.std.proofs.lemmas.Option.{none-some, same_Some, slice_get_past}
 use Rattle.lsys_region.proofs.ListLemmas.{slice_get-push_old, slice_get-push_new, slice_get-push_other, slice_get-push_cases}
 use Rattle.lsys_forest.specs.Nodes.{Node, Nodes, with_node, change, with_seen, with_key, with_kids, with_answer}
 use Rattle.lsys_forest.specs.Changes.{Previous, Missing, OldSeen, OldKey, OldKids, OldAnswer, Change, undo}
@@ -46,6 +46,16 @@ module _ {A : Type 0} where
     pub lost : (a : A) → gone ≡ Some a → (x : AnswerKeeper) × (old x ≡ Some a) × ((h : AnswerKeeper) (b : A) → new h ≡ Some b → from h ≢ x)
 
   module _ {Store Name Run : Type 0} (run_at : Store → Name → Option Run) (holds : A → Name → Type 0) where
+    -- no answer is released, and one
+    pub releases_none : (s : Store) → Releases run_at holds None s s
+    releases_none s = record { gone = λ a e. absurd (none-some a e); others = λ r free. refl }
+
+    pub releases_some : (a : A) (s s' : Store) → ((r : Name) → holds a r → run_at s' r ≡ None) → ((r : Name) → (holds a r → ⊥) → run_at s' r ≡ run_at s r) → Releases run_at holds (Some a) s s'
+    releases_some a s s' gone others = record {
+      gone = λ b e r held. gone r (subst (λ (x : A). holds x r) (sym (same_Some a b e)) held);
+      others = λ r free. others r (λ held. free a refl held);
+    }
+
     pub lost_made : (old new : AnswerKeeper → Option A) (gone : Option A) (s : Store) → IsStep old new gone → LiveApart run_at holds s old → Lives run_at holds s gone
     lost_made old new gone s step made a is r h = let x = step.lost a is in made.made x.0 a r x.1 h
 

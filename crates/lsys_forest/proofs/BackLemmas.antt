@@ -14,8 +14,9 @@ use Rattle.lsys_forest.specs.Slots.{slot_at, no_footing, footing_at, live_slots,
 use Rattle.lsys_forest.specs.Nodes.{Node, Nodes, change, seen_as, with_seen, with_key, with_kids, with_answer}
 use Rattle.lsys_forest.specs.Changes.{KeepsKids, Previous, Missing, OldSeen, OldKey, OldKids, OldAnswer, Change, undo}
 use Rattle.lsys_forest.specs.Answers.{answer_of, old_answer}
-use Rattle.lsys_forest.specs.Stocks.{row_at, where_some, first_of, before_of, params_left, kids_left, node_of, changes_told, param_lists, kid_lists, param_count, kid_count, IsStock, UndoesParams, UndoesKids, undone_slots, undone_footings, slot_answer, dropped_slot, dropped, looked, DropsParams, TakesKids, noted_answer, nodes_named}
-use Rattle.lsys_forest.specs.Notes.{ForLastNote}
+use Rattle.lsys_forest.specs.Stocks.{row_at, where_some, first_of, before_of, params_left, kids_left, node_of, changes_told, param_lists, kid_lists, param_count, kid_count, IsStock, UndoesParams, UndoesKids, undone_slots, undone_footings, slot_answer, dropped_slot, dropped, looked, DropsParams, TakesKids, DropsLeft, TakesLeft, nodes_left, noted_answer, nodes_named}
+use Rattle.lsys_forest.specs.declared.note.Remnant.{Remnant}
+use Rattle.lsys_forest.specs.Notes.{ForLastNote, remnant_of}
 use Rattle.lsys_forest.proofs.SlotLemmas.{live_change, live_gone, slot_some}
 use Rattle.lsys_forest.proofs.TableLemmas.{get_set_other, get_cleared}
 use Rattle.lsys_forest.proofs.StockLemmas.{change_there, change_other, shown_nodes, lives_stored, AgreeBut, nodes_put, told_plain, told_param, told_kid, param_count_push, kid_count_push}
@@ -355,6 +356,28 @@ module _ {A : Type 0} where
         past_params_room = let e = ap past_room pu in omega (arith, e);
         past_kids_room = let e = ap (λ (y : Shelf ℕ). y.past_places) qr in let l = ap length qp in omega (arith, e, l, ql, end.3);
       }
+
+  -- what a note drops and names is told by what is left of it
+  pub drops_left : (r : Remnant) (k : ℕ) (w : Was A) (old new : Shelf ℤ) → r ≡ remnant_of k w → DropsLeft r old new → DropsParams w old new
+  drops_left r k was.Missing old new is drops = subst (λ (r : Remnant). DropsLeft r old new) is drops
+  drops_left r k (was.Kind x) old new is drops = subst (λ (r : Remnant). DropsLeft r old new) is drops
+  drops_left r k (was.Key x) old new is drops = subst (λ (r : Remnant). DropsLeft r old new) is drops
+  drops_left r k was.Kids old new is drops = subst (λ (r : Remnant). DropsLeft r old new) is drops
+  drops_left r k (was.Answer x) old new is drops = subst (λ (r : Remnant). DropsLeft r old new) is drops
+
+  pub takes_left : (r : Remnant) (k : ℕ) (w : Was A) (old new : Shelf ℕ) → r ≡ remnant_of k w → TakesLeft r old new → TakesKids w old new
+  takes_left r k was.Missing old new is takes = subst (λ (r : Remnant). TakesLeft r old new) is takes
+  takes_left r k (was.Kind x) old new is takes = subst (λ (r : Remnant). TakesLeft r old new) is takes
+  takes_left r k (was.Key x) old new is takes = subst (λ (r : Remnant). TakesLeft r old new) is takes
+  takes_left r k was.Kids old new is takes = subst (λ (r : Remnant). TakesLeft r old new) is takes
+  takes_left r k (was.Answer x) old new is takes = subst (λ (r : Remnant). TakesLeft r old new) is takes
+
+  pub names_left : (r : Remnant) (k : ℕ) (w : Was A) (hand : List ℕ) → r ≡ remnant_of k w → nodes_left r hand ≡ nodes_named w k hand
+  names_left r k was.Missing hand is = ap (λ (r : Remnant). nodes_left r hand) is
+  names_left r k (was.Kind x) hand is = ap (λ (r : Remnant). nodes_left r hand) is
+  names_left r k (was.Key x) hand is = ap (λ (r : Remnant). nodes_left r hand) is
+  names_left r k was.Kids hand is = ap (λ (r : Remnant). nodes_left r hand) is
+  names_left r k (was.Answer x) hand is = ap (λ (r : Remnant). nodes_left r hand) is
 
   -- the last change, before it is undone or taken up
   pub record Last (slots : List (Option (Stored A))) (p : Shelf ℤ) (q : Shelf ℕ) (notes : List (Note A)) (k : ℕ) (w : Was A) : Type 0 where

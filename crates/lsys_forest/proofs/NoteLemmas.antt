@@ -2,6 +2,7 @@
 use Rattle.std.proofs.Common.{◌≡◌, ◌+◌, ◌-◌, ◌≤◌, append-nil, ℕ, zero, suc, List, [], ◌∷◌, ◌++◌, length, length-append, Option, Some, None, refl, sym, ap, ◌∙◌, arith, subst}
 use Rattle.std.specs.Prelude.{slice_get, IfSome, IfNone}
 use Rattle.std.proofs.lemmas.Option.{none-some, same_Some}
+use Rattle.lsys_region.proofs.ListLemmas.{slice_get-push_new}
 use Rattle.lsys_forest.specs.declared.note.Note.{Note}
 use Rattle.lsys_forest.specs.declared.note.Was.{Was}
 use Rattle.lsys_forest.specs.declared.note.Was.TheVariants as was
@@ -10,8 +11,8 @@ use Rattle.lsys_forest.specs.declared.journal.Sort.{Sort}
 use Rattle.lsys_forest.specs.declared.journal.Sort.TheVariants as sort
 use Rattle.lsys_forest.specs.declared.journal.Value.{Value}
 use Rattle.lsys_forest.specs.declared.journal.Value.TheVariants as value
-use Rattle.lsys_forest.specs.Stocks.{kid_lists}
-use Rattle.lsys_forest.specs.Notes.{value_count, answer_count, kids_noted, values_left, answers_left, values_taken, answers_taken, as_was, was_told, notes_told, HaveTheirValues, PutsBy, ForLastNote}
+use Rattle.lsys_forest.specs.Stocks.{kid_lists, noted_answer}
+use Rattle.lsys_forest.specs.Notes.{value_count, answer_count, kids_noted, lists_valued, remnant_of, answer_by, values_left, answers_left, values_taken, answers_taken, as_was, was_told, notes_told, HaveTheirValues, PutsBy, ForLastNote}
 
 pub value_count_le : (s : Sort) → value_count s ≤ 1
 value_count_le sort.Missing = omega arith
@@ -42,6 +43,11 @@ values_push (m ∷ lines) l = omega (arith, values_push lines l)
 pub answers_push : (lines : List Line) (l : Line) → answers_taken (lines ++ l ∷ []) ≡ answers_taken lines + answer_count l.sort
 answers_push [] l = omega arith
 answers_push (m ∷ lines) l = omega (arith, answers_push lines l)
+
+-- what is left of a note with a value
+pub lists_of_value : (A : Type 0) (k : ℕ) (x : Value) → lists_valued x ≡ remnant_of {A = A} k (as_was x)
+lists_of_value A k (value.Kind x) = refl
+lists_of_value A k (value.Key x) = refl
 
 module _ {A : Type 0} where
   pub told_long : (lines : List Line) (values : List Value) (answers : List A) → length (notes_told lines values answers) ≡ length lines
@@ -129,6 +135,26 @@ module _ {A : Type 0} where
     one_value = refl;
     one_answer = refl;
   }
+
+  no_answer_valued : (values : List Value) (answers : List A) → noted_answer (was_told sort.Value values answers) ≡ None
+  no_answer_valued [] answers = refl
+  no_answer_valued (value.Kind x ∷ values) answers = refl
+  no_answer_valued (value.Key x ∷ values) answers = refl
+
+  -- the answer that a note keeps is that of its line
+  pub noted_by : (s : Sort) (w : Was A) (values new_values : List Value) (answers new_answers : List A) → PutsBy s w values new_values answers new_answers → noted_answer w ≡ answer_by s new_answers
+  noted_by sort.Missing w vs values xs answers p = ap noted_answer (sym p.tells)
+  noted_by sort.Kids w vs values xs answers p = ap noted_answer (sym p.tells)
+  noted_by sort.Bare w vs values xs answers p = ap noted_answer (sym p.tells)
+  noted_by sort.Value w vs values xs answers p = ap noted_answer (sym p.tells) ∙ no_answer_valued p.value p.answer
+  noted_by sort.Answer w vs values xs answers p = ap noted_answer (sym p.tells) ∙ go p.answer p.one_answer p.answers_are
+    where
+      go : (answer : List A) → length answer ≡ 1 → answers ≡ xs ++ answer → noted_answer (was_told sort.Answer p.value answer) ≡ slice_get answers (length answers - 1)
+      go [] one are = absurd (omega (arith, one))
+      go (a ∷ []) one are =
+          let long : length xs ≡ length answers - 1 = omega (arith, ap length are, length-append xs (a ∷ [])) in
+          sym (ap (λ (l : List A). slice_get l (length answers - 1)) are ∙ ap (slice_get (xs ++ a ∷ [])) (sym long) ∙ slice_get-push_new xs a)
+      go (a ∷ b ∷ answer) one are = absurd (omega (arith, one))
 
   kids_told : (s : Sort) (values : List Value) (answers : List A) → kid_lists (was_told s values answers) ≡ kids_noted s
   kids_told sort.Missing values answers = refl

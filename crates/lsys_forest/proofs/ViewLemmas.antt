@@ -267,6 +267,17 @@ module _ {A : Type 0} where
       let same : b.bracket ≡ spot_in k (Some at.node) = same_Some b.bracket (spot_in k (Some at.node)) (sym b.is ∙ spotted_is f k at) in
       absurd (subst IsBracket (ap (λ (s : Spotted). s.seen) same ∙ seen) b.kind)
 
+  -- where a node is of another kind than a module, a bracket stands
+  pub bracket_there : (f : Grove A) (k : ℕ) → (at : IsNodeAt f k) → (kind : Kind) (params : List ℤ) → at.node.seen ≡ seen_as kind params → ((name : List ℕ) → kind ≡ kinds.Module name → ⊥) → IsBracketAt (spots_at (complete_levels f) (level_of_node f k)) (place_of_node f k)
+  bracket_there f k at kinds.Push params seen other = record { bracket = spot_in k (Some at.node); is = spotted_is f k at; kind = subst IsBracket (sym seen) tt }
+  bracket_there f k at kinds.Pop params seen other = record { bracket = spot_in k (Some at.node); is = spotted_is f k at; kind = subst IsBracket (sym seen) tt }
+  bracket_there f k at (kinds.Module name) params seen other = absurd (other name refl)
+
+  pub no_bracket : (f : Grove A) (k : ℕ) → (at : IsNodeAt f k) → (kind : Kind) (params : List ℤ) → at.node.seen ≡ seen_as kind params → (name : List ℕ) → kind ≡ kinds.Module name → IsBracketAt (spots_at (complete_levels f) (level_of_node f k)) (place_of_node f k) → ⊥
+  no_bracket f k at kind params seen name is b =
+      let same : b.bracket ≡ spot_in k (Some at.node) = same_Some b.bracket (spot_in k (Some at.node)) (sym b.is ∙ spotted_is f k at) in
+      subst IsBracket (ap (λ (s : Spotted). s.seen) same ∙ seen ∙ ap (λ (x : Kind). seen_as x params) is) b.kind
+
   pub mate_level : (f : Grove A) (changes : List (Change A)) (way : Way) (k mate : ℕ) → IsRooted f.root changes (now_of f) → IsMateThat way (now_of f) (level_nodes (now_of f) f.root (level_of_node f k)) k mate → level_of_node f mate ≡ level_of_node f k
   mate_level f changes way k mate sound mates = (spot_of f changes sound (level_of_node f k) mate mates.before mates.after mates.whole).level
 

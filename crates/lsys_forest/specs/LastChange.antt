@@ -1,10 +1,16 @@
 -- What befalls the last change of a stock, and which answers are given back with it.
 use Rattle.std.specs.Prelude.{◌≡◌, ℕ, List, [], ◌∷◌, ◌++◌, Option, Some}
+use Rattle.lsys_forest.specs.declared.journal.Line.{Line}
+use Rattle.lsys_forest.specs.declared.journal.Value.{Value}
 use Rattle.lsys_forest.specs.declared.note.Look.{Look}
+use Rattle.lsys_forest.specs.declared.note.Note.{Note}
+use Rattle.lsys_forest.specs.declared.note.Remnant.{Remnant}
+use Rattle.lsys_forest.specs.declared.note.Was.{Was}
+use Rattle.lsys_forest.specs.Notes.{Notes, PutsBy, remnant_of}
 use Rattle.lsys_forest.specs.Nodes.{Node}
 use Rattle.lsys_forest.specs.Changes.{Change}
 use Rattle.lsys_forest.specs.Answers.{AnswerKeeper, old_answer, answers, Lives, Releases, FreesUnheld}
-use Rattle.lsys_forest.specs.Stocks.{Stock, nodes_of, changes_of, dropped, Undoes, TakesUp, Removes}
+use Rattle.lsys_forest.specs.Stocks.{Stock, nodes_of, changes_of, dropped, noted_answer, Undoes, TakesUp, Removes}
 
 module _ {A : Type 0} where
   -- the answers that the nodes of a stock keep, and those that they kept before a change
@@ -37,6 +43,24 @@ module _ {A : Type 0} where
     abbrev pub TakesOneUp : Stock A → Stock A → Store → Store → Look → Type 0
     TakesOneUp old new before after look =
         (c : Change A) × TakesUp old new c look × Releases run_at holds (old_answer c) before after
+
+    -- the last note was taken up: its answer was released, and this is left of it
+    abbrev pub TakesNoteUp : Notes A → Notes A → Store → Store → Remnant → Type 0
+    TakesNoteUp old new before after left =
+        (n : Note A) × (old.notes ≡ new.notes ++ n ∷ []) × (left ≡ remnant_of n.node n.was)
+        × Releases run_at holds (noted_answer n.was) before after
+
+    -- the answer of the last note, if it has one, was made with this store
+    abbrev pub LastNoteLives : List (Note A) → Store → Type 0
+    LastNoteLives notes store =
+        (n : Note A) (earlier : List (Note A)) → notes ≡ earlier ++ n ∷ []
+        → Lives run_at holds store (noted_answer n.was)
+
+    -- the answer of the last line, if it has one, was made with this store
+    abbrev pub LineLives : Line → List Value → List A → Store → Type 0
+    LineLives l values answers store =
+        (w : Was A) (vs : List Value) (xs : List A) → PutsBy l.sort w vs values xs answers
+        → Lives run_at holds store (noted_answer w)
 
     -- the node at a number was removed, and its answer released
     abbrev pub RemovesNode : Stock A → Stock A → ℕ → Store → Store → Type 0

@@ -1,13 +1,14 @@
 -- What comes next on a level of nodes, and what comes first below it.
-use Rattle.std.specs.Prelude.{◌≡◌, ◌-◌, ◌<◌, ℕ, true, List, [], ◌∷◌, ◌++◌, Option, Some, slice_get}
+use Rattle.std.specs.Prelude.{◌≡◌, ◌-◌, ◌<◌, ℕ, true, List, [], ◌∷◌, ◌++◌, Option, Some, MatchOption, slice_get}
 use Rattle.lsys_spec.specs.Rows.{first_in, last_in, flat}
 use Rattle.lsys_spec.specs.Levels.{level_balanced}
 use Rattle.lsys_level.specs.Spots.{level_by}
+use Rattle.lsys_level.specs.ViewAnswers.{IsLeftOf, IsRightOf, HasBracket, IsMateOf}
 use Rattle.lsys_forest.specs.declared.walk.Way.{Way}
 use Rattle.lsys_forest.specs.Nodes.{Nodes}
 use Rattle.lsys_forest.specs.Stocks.{Stock, nodes_of}
 use Rattle.lsys_forest.specs.Groves.{Grove, now_of}
-use Rattle.lsys_forest.specs.Rows.{index_in, oriented, kids_in, kids_that_way, kids_below, level_nodes, level_spots, level_with}
+use Rattle.lsys_forest.specs.Rows.{index_in, oriented, kids_in, kids_that_way, kids_below, level_nodes, level_spots, complete_levels, level_of_node, place_of_node, level_with}
 
 -- this comes next to a number in a row, if something does
 abbrev pub IsNextIn : List ℕ → ℕ → Option ℕ → Type 0
@@ -47,6 +48,22 @@ module _ {A : Type 0} where
   IsChildFrom way f k kid =
       (before after : List ℕ) → oriented way (level_with f k) ≡ before ++ k ∷ after
       → kid ≡ first_in (flat (kids_that_way way (now_of f)) (k ∷ after))
+
+  -- this is the left neighbour of a node of a complete level; none at the left end
+  abbrev pub IsLeftNode : Grove A → ℕ → Option ℕ → Type 0
+  IsLeftNode f k left = IsLeftOf (level_of_node f) (place_of_node f) k left
+
+  -- this is its right neighbour; none at the right end
+  abbrev pub IsRightNode : Grove A → ℕ → Option ℕ → Type 0
+  IsRightNode f k right = IsRightOf (complete_levels f) (level_of_node f) (place_of_node f) k right
+
+  -- this is its mate, where a bracket stands there; none where a module does
+  abbrev pub IsMateNode : Grove A → ℕ → Option ℕ → Type 0
+  IsMateNode f k mate =
+      let levels = complete_levels f in let t = level_of_node f k in let p = place_of_node f k in
+      MatchOption mate (HasBracket levels t p → ⊥)
+      (λ m. HasBracket levels t p × (level_of_node f m ≡ t)
+      × IsMateOf levels (level_of_node f) (place_of_node f) k m)
 
   -- this is the first child of the nodes of a level from one of them on
   abbrev pub IsFirstBelow : Grove A → ℕ → Option ℕ → Type 0

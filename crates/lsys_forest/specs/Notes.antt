@@ -1,8 +1,10 @@
 -- How the notes of a journal stand in their parts.
-use Rattle.std.specs.Prelude.{◌≡◌, ◌+◌, ◌-◌, ℕ, List, [], ◌∷◌, ◌++◌, length, min, Some, None, slice_get}
+use Rattle.std.specs.Prelude.{◌≡◌, ◌+◌, ◌-◌, ℕ, List, [], ◌∷◌, ◌++◌, length, min, Option, Some, None, slice_get}
 use Rattle.lsys_forest.specs.declared.note.Note.{Note}
 use Rattle.lsys_forest.specs.declared.note.Was.{Was}
 use Rattle.lsys_forest.specs.declared.note.Was.TheVariants as was
+use Rattle.lsys_forest.specs.declared.note.Remnant.{Remnant}
+use Rattle.lsys_forest.specs.declared.note.Remnant.TheVariants as remnant
 use Rattle.lsys_forest.specs.declared.journal.Line.{Line}
 use Rattle.lsys_forest.specs.declared.journal.Sort.{Sort}
 use Rattle.lsys_forest.specs.declared.journal.Sort.TheVariants as sort
@@ -38,6 +40,11 @@ abbrev pub answers_left : {A : Type 0} → Sort → List A → List A
 answers_left sort.Answer [] = []
 answers_left sort.Answer (a ∷ answers) = answers
 answers_left s answers = answers
+
+-- what is left of a note with this value
+abbrev pub lists_valued : Value → Remnant
+lists_valued (value.Kind x) = remnant.Params
+lists_valued (value.Key x) = remnant.Nothing
 
 -- how many of them lines have
 abbrev pub values_taken : List Line → ℕ
@@ -92,6 +99,37 @@ module _ {A : Type 0} where
     pub tells : was_told s value answer ≡ w
     pub one_value : length value ≡ value_count s
     pub one_answer : length answer ≡ answer_count s
+
+  -- the note of a line that has neither a value nor an answer
+  abbrev pub bare_note : Line → Note A
+  bare_note l = record { node = l.node; was = was_told l.sort [] [] }
+
+  -- the note that a node kept this answer, or none
+  abbrev pub answer_note : ℕ → Option A → Note A
+  answer_note k answer = record { node = k; was = was.Answer answer }
+
+  -- what is left of a note once its answer is gone
+  abbrev pub remnant_of : ℕ → Was A → Remnant
+  remnant_of k was.Missing = remnant.Node k
+  remnant_of k (was.Kind x) = remnant.Params
+  remnant_of k (was.Key x) = remnant.Nothing
+  remnant_of k was.Kids = remnant.Kids
+  remnant_of k (was.Answer x) = remnant.Nothing
+
+  -- what the last line tells stood behind the values and the answers that are left, and this is left of its note
+  pub record IsPopped (l : Line) (left : Remnant) (values old_values : List Value)
+      (answers old_answers : List A) : Type 0 where
+    pub told : Was A
+    pub puts : PutsBy l.sort told values old_values answers old_answers
+    pub left_is : left ≡ remnant_of l.node told
+
+  -- the answer of the last line, if it has one
+  abbrev pub answer_by : Sort → List A → Option A
+  answer_by sort.Answer answers = slice_get answers (length answers - 1)
+  answer_by s answers = None
+
+  abbrev pub last_held : Line → List A → Option A
+  last_held l answers = answer_by l.sort answers
 
   -- this holds of the last note, if there is one
   abbrev pub ForLastNote : List (Note A) → (Note A → Type 0) → Type 0

@@ -8,6 +8,8 @@ use Rattle.lsys_forest.specs.declared.note.Was.{Was}
 use Rattle.lsys_forest.specs.declared.note.Was.TheVariants as was
 use Rattle.lsys_forest.specs.Shelves.{Shelf, Hoard, run_list, shelf_of, past_room, IsOwner}
 use Rattle.lsys_forest.specs.Notes.{Notes}
+use Rattle.lsys_forest.specs.declared.note.Remnant.{Remnant}
+use Rattle.lsys_forest.specs.declared.note.Remnant.TheVariants as remnant
 use Rattle.lsys_forest.specs.declared.note.Look.{Look}
 use Rattle.lsys_forest.specs.declared.note.Look.TheVariants as look
 use Rattle.lsys_forest.specs.Slots.{SlotTable, slot_at, no_footing, footing_at, live_slots, change_slot, kind_set, key_set, answer_set, answer_before}
@@ -86,6 +88,21 @@ pub record Swaps {T : Type 0} (k : ℕ) (list : List T) (old new : Shelf T) : Ty
   pub swapped : new ≡ record old { current = new.current; past = old.past ++ row_at old.current k ∷ []; spare = new.spare; past_places = new.past_places }
   pub spare : old.spare ≤ new.spare + list_room list
   pub places : old.past_places ≤ new.past_places
+
+-- what is left of a note drops the last of the past lists of parameters, or takes the last of children in hand
+abbrev pub DropsLeft : Remnant → Shelf ℤ → Shelf ℤ → Type 0
+DropsLeft remnant.Params old new = DropsLast old new
+DropsLeft r old new = new ≡ old
+
+abbrev pub TakesLeft : Remnant → Shelf ℕ → Shelf ℕ → Type 0
+TakesLeft remnant.Kids old new = TakesLastUp old new
+TakesLeft r old new = new ≡ old
+
+-- the nodes that it names, where these are in hand
+abbrev pub nodes_left : Remnant → List ℕ → List ℕ
+nodes_left (remnant.Node k) hand = k ∷ []
+nodes_left remnant.Kids hand = hand
+nodes_left r hand = []
 
 abbrev pub named_by : Look → List ℕ → List ℕ
 named_by (look.Node k) hand = k ∷ []

@@ -1,13 +1,12 @@
 //! The forest.
-ghost use Rattle.std.specs.Prelude.{◌↔◌, ◌≡◌, ◌≢◌, ◌⊎◌, ◌+◌, ◌-◌, ◌<◌, ◌≤◌, ◌^◌, ℕ, [], None, Some, IfOk, OnOk, IsTrue, false, option_copied, length, max, List, ℤ};
+ghost use Rattle.std.specs.Prelude.{◌↔◌, ◌≡◌, ◌≢◌, ◌⊎◌, ◌+◌, ◌-◌, ◌<◌, ◌≤◌, ◌^◌, ℕ, [], None, Some, IfOk, OnOk, IsTrue, option_copied, length, max, List, ℤ};
 ghost use Rattle.lsys_module.specs.declared.symbol.Symbol.TheVariants.{Cut};
 ghost use Rattle.lsys_level.specs.Places.{seen_in, params_in};
 ghost use Rattle.lsys_level.specs.Views.{seen_of, HasFewParams};
 ghost use Rattle.lsys_region.specs.Rooms.{list_room};
 ghost use Rattle.lsys_forest.specs.Nodes.{Node, root_node, seen_as, with_seen, with_key, with_kids, with_answer, ForNode};
 ghost use Rattle.lsys_forest.specs.Slots.{live_slots};
-ghost use Rattle.lsys_forest.specs.Changes.{undone};
-ghost use Rattle.lsys_forest.specs.Stocks.{nodes_of, changes_of, KeepsRoom};
+ghost use Rattle.lsys_forest.specs.Stocks.{nodes_of};
 ghost use Rattle.lsys_forest.specs.Answers.{LiveApart};
 ghost use Rattle.lsys_forest.specs.Rows.{oriented, complete_levels, level_of_node, place_of_node, IsAtSpot, level_with};
 ghost use Rattle.lsys_forest.specs.Mates.{mate_way};
@@ -15,9 +14,9 @@ ghost use Rattle.lsys_forest.specs.Ranks.{AreRanked, AreLinked};
 ghost use Rattle.lsys_forest.specs.Pairs.{AreSameSort};
 ghost use Rattle.lsys_forest.specs.Groves.{now_of, rest_of, IsAtRest, IsLive, live_nodes, numbers_in, spare_params, spare_kids, kept_in, changes_in, IsRooted, AreSound, Reached, AreKids, Spends, KeepsSpares, Alters, AddsNode, NotesAnswer, KeepsReached, FreesAllBesides};
 ghost use Rattle.lsys_forest.specs.Regions.{ParamsStandIn, KidsStandIn, HasNoPastLists};
-ghost use Rattle.lsys_forest.specs.LastChange.{answers_in, StaysUnchanged, UndoDropsMade, GoesBack, StoreFollows};
-ghost use Rattle.lsys_forest.specs.Neighbours.{IsNextIn, IsChildFrom, IsFirstBelow, IsLastBelow};
+ghost use Rattle.lsys_forest.specs.Neighbours.{IsNextIn, IsChildFrom, IsFirstBelow, IsLastBelow, IsLeftNode, IsRightNode, IsMateNode};
 
+use crate::around::{Around, linked_around};
 use crate::kept::Kept;
 use crate::link::link_levels;
 use crate::node::{Kind, NodeId};
@@ -25,6 +24,7 @@ use crate::pairs::mate_levels;
 use crate::seen::is_seen;
 use crate::stock::Parts;
 use crate::sweep::sweep_all;
+use crate::undo::undo_all;
 use crate::walk::{Way, comes_before, first_at, first_child, mate_of, next_beside};
 use lsys_level::{LevelView, Sight, Tag};
 use lsys_module::Symbol;
@@ -244,6 +244,14 @@ impl<A: Kept> Forest<A> {
         self.mated = mate_levels(&mut self.parts, self.root, self.mated, self.linked);
     }
 
+    /// On how many levels, from the first one on, the nodes are linked to their neighbours: those below them are what
+    /// [`Forest::link`] has to go through. It costs no step.
+    pub fn linked(&self) -> u32
+        ensures { AreLinked (now_of self.now) self.now.root self.now.stock.footings result }
+    {
+        self.linked
+    }
+
     /// The root. A forest is sound: its nodes hang together under the root, and did so at any time since the last rest.
     pub fn root(&self) -> NodeId
         ensures root { result ≡ self.now.root }
@@ -400,6 +408,36 @@ impl<A: Kept> Forest<A> {
         self.child_from(spot, Way::Left)
     }
 
+    /// Who is around a node of a complete level: its neighbours, and the mate of a bracket. Where the level is linked it is one
+    /// look, and one more for the mate of a bracket where mates stand at them.
+    pub fn around(&self, spot: NodeId) -> Around
+        requires { IsAtSpot self.now spot }
+        ensures left { IsLeftNode self.now spot result.left }
+        ensures right { IsRightNode self.now spot result.right }
+        ensures mate { IsMateNode self.now spot result.mate }
+    {
+        let mate = self.mate_if_bracket(spot);
+        if self.depth(spot) <= self.linked {
+            return linked_around(&self.parts, spot, mate);
+        }
+        Around {
+            left: self.left(spot),
+            right: self.right(spot),
+            mate,
+        }
+    }
+
+    /// The mate of a bracket; none of a module.
+    fn mate_if_bracket(&self, spot: NodeId) -> Option<NodeId>
+        requires { IsAtSpot self.now spot }
+        ensures { IsMateNode self.now spot result }
+    {
+        match self.parts.kind(spot) {
+            Kind::Module(_) => None,
+            _ => Some(self.mate(spot)),
+        }
+    }
+
     /// The node next to one of a complete level, that way.
     fn beside(&self, spot: NodeId, way: Way) -> Option<NodeId>
         requires { IsAtSpot self.now spot }
@@ -538,49 +576,4 @@ fn room_for<A: Kept>(parts: &mut Parts<A>, nodes: usize, spare: usize) -> usize
         Err(_) if parts.has_numbers() => spare,
         Err(_) => 0,
     }
-}
-
-/// Undoes each change, the last first.
-fn undo_all<A: Kept>(parts: &mut Parts<A>, root: NodeId, linked: &mut u32, store: &mut A::Store)
-    requires sound { AreSound root (changes_of parts.old) (nodes_of parts.old) }
-    requires ranked { AreRanked (nodes_of parts.old) parts.old.footings }
-    requires linked { AreLinked (nodes_of parts.old) root parts.old.footings linked.old }
-    requires made { LiveApart A.run_at A.Holds store.old (answers_in parts.old) }
-    ensures nodes { nodes_of parts.new ≡ undone (changes_of parts.old) (nodes_of parts.old) }
-    ensures empty { changes_of parts.new ≡ [] }
-    ensures live { live_slots parts.new.slots ≤ live_slots parts.old.slots }
-    ensures room { KeepsRoom parts.old parts.new }
-    ensures ranked { AreRanked (nodes_of parts.new) parts.new.footings }
-    ensures linked { AreLinked (nodes_of parts.new) root parts.new.footings linked.new }
-    ensures made { LiveApart A.run_at A.Holds store.new (answers_in parts.new) }
-    ensures freed { StoreFollows A.run_at A.Holds parts.old store.old parts.new store.new }
-{
-    while undo_one(parts, root, linked, store) {}
-}
-
-/// Undoes the last change, and tells whether there was one.
-fn undo_one<A: Kept>(
-    parts: &mut Parts<A>,
-    root: NodeId,
-    linked: &mut u32,
-    store: &mut A::Store,
-) -> bool
-    requires sound { AreSound root (changes_of parts.old) (nodes_of parts.old) }
-    requires ranked { AreRanked (nodes_of parts.old) parts.old.footings }
-    requires linked { AreLinked (nodes_of parts.old) root parts.old.footings linked.old }
-    requires made { UndoDropsMade A.run_at A.Holds parts.old store.old }
-    ensures undone { IsTrue result → GoesBack A.run_at A.Holds parts.old parts.new store.old store.new }
-    ensures none { result ≡ false → StaysUnchanged parts.old parts.new store.old store.new }
-    ensures ranked { AreRanked (nodes_of parts.new) parts.new.footings }
-    ensures linked { AreLinked (nodes_of parts.new) root parts.new.footings linked.new }
-{
-    let family = parts.last_family();
-    if !parts.undo_last(store) {
-        return false;
-    }
-    if let Some(node) = family {
-        parts.rerank(node);
-        *linked = (*linked).min(parts.depth(node));
-    }
-    true
 }

@@ -1,10 +1,13 @@
 //! The journal: notes of what nodes were, of which the last one is taken back first.
 ghost use Rattle.std.specs.Prelude.{◌≡◌, ◌+◌, ◌<◌, ◌≤◌, ◌^◌, ◌++◌, ◌∷◌, [], length, IfSome, IfNone, OnOk, vec_len, vec_capacity};
+ghost use Rattle.lsys_forest.specs.Answers.{Releases};
 ghost use Rattle.lsys_forest.specs.Stocks.{kid_lists};
-ghost use Rattle.lsys_forest.specs.Notes.{as_was, value_count, answer_count, kids_noted, PutsBy, ForLastNote};
+ghost use Rattle.lsys_forest.specs.Notes.{as_was, value_count, answer_count, kids_noted, lists_valued, bare_note, answer_note, last_held, IsPopped, PutsBy, ForLastNote};
+ghost use Rattle.lsys_forest.specs.LastChange.{TakesNoteUp, LastNoteLives, LineLives};
 
+use crate::kept::Kept;
 use crate::node::{Kind, NodeId};
-use crate::note::{Note, Was};
+use crate::note::{Note, Remnant, Was};
 use std::alloc::{AllocError, Global};
 use std::marker::Model;
 
@@ -86,6 +89,7 @@ impl<A: Drop> Journal<A> {
     }
 
     /// Writes a note at the end. It takes no memory.
+    #[inline]
     pub(crate) fn push(&mut self, note: Note<A>)
         requires { 0 < self.old.room }
         ensures pushed { self.new.notes ≡ self.old.notes ++ note ∷ [] }
@@ -99,6 +103,36 @@ impl<A: Drop> Journal<A> {
                 sort,
             },
         );
+    }
+
+    /// Writes a line at the end that has neither a value nor an answer. It takes no memory.
+    #[inline]
+    pub(crate) fn push_bare(&mut self, line: Line)
+        requires bare { (value_count line.sort ≡ 0) × (answer_count line.sort ≡ 0) }
+        requires place { 0 < self.old.room }
+        ensures pushed { self.new.notes ≡ self.old.notes ++ bare_note line ∷ [] }
+        ensures room { self.old.room ≤ self.new.room + 1 }
+    {
+        put(&mut self.lines, line);
+    }
+
+    /// Writes at the end that a node kept this answer, or none. It takes no memory.
+    #[inline]
+    pub(crate) fn push_answer(&mut self, node: NodeId, answer: Option<A>)
+        requires { 0 < self.old.room }
+        ensures pushed { self.new.notes ≡ self.old.notes ++ answer_note node answer ∷ [] }
+        ensures room { self.old.room ≤ self.new.room + 1 }
+    {
+        match answer {
+            Some(kept) => {
+                let was = Was::Answer(Some(kept));
+                self.push(Note { node, was });
+            }
+            None => {
+                let sort = Sort::Bare;
+                self.push_bare(Line { node, sort });
+            }
+        }
     }
 
     /// Takes the last note, if there is one.
@@ -131,6 +165,24 @@ impl<A: Drop> Journal<A> {
     }
 }
 
+impl<A: Kept> Journal<A> {
+    /// Takes up the last note, if there is one, and answers what is left of it: the answer that it has is released, in its place. It
+    /// takes no memory.
+    #[inline]
+    pub(crate) fn take_up(&mut self, store: &mut A::Store) -> Option<Remnant>
+        requires made { LastNoteLives A.run_at A.Holds self.old.notes store.old }
+        ensures some { IfSome result (TakesNoteUp A.run_at A.Holds self.old self.new store.old store.new) }
+        ensures none { IfNone result ((self.old.notes ≡ []) × (self.new ≡ self.old)) }
+        ensures store { IfNone result (store.new ≡ store.old) }
+        ensures room { self.old.room ≤ self.new.room }
+    {
+        match self.lines.pop() {
+            Some(line) => Some(take_told(&mut self.values, &mut self.answers, line, store)),
+            None => None,
+        }
+    }
+}
+
 /// The node that a note is of, if it is one of children.
 fn family_of(line: &Line) -> Option<NodeId>
     ensures some { IfSome result (λ k. line.now.node ≡ k) }
@@ -143,6 +195,7 @@ fn family_of(line: &Line) -> Option<NodeId>
 }
 
 /// Puts away what a node was, and answers of which sort the note is.
+#[inline]
 fn keep<A: Drop>(values: &mut Vec<Value>, kept: &mut Vec<A>, was: Was<A>) -> Sort
     requires values { vec_len values.old < vec_capacity values.old }
     requires answers { vec_len kept.old < vec_capacity kept.old }
@@ -186,6 +239,44 @@ fn take<A: Drop>(values: &mut Vec<Value>, kept: &mut Vec<A>, sort: Sort) -> Was<
     }
 }
 
+/// Takes up what a node was, by the last line, and answers what is left of it. An answer is released.
+#[inline]
+fn take_told<A: Kept>(
+    values: &mut Vec<Value>,
+    kept: &mut Vec<A>,
+    line: Line,
+    store: &mut A::Store,
+) -> Remnant
+    requires values { value_count line.sort ≤ vec_len values.old }
+    requires answers { answer_count line.sort ≤ vec_len kept.old }
+    requires made { LineLives A.run_at A.Holds line values.old.items kept.old.items store.old }
+    ensures was { IsPopped line result values.new.items values.old.items kept.new.items kept.old.items }
+    ensures freed { Releases A.run_at A.Holds (last_held line kept.old.items) store.old store.new }
+    ensures places { vec_capacity values.old ≤ vec_capacity values.new }
+    ensures answer_places { vec_capacity kept.old ≤ vec_capacity kept.new }
+{
+    match line.sort {
+        Sort::Missing => Remnant::Node(line.node),
+        Sort::Value => lists_of(take_last(values)),
+        Sort::Kids => Remnant::Kids,
+        Sort::Answer => {
+            take_last(kept).release(store);
+            Remnant::Nothing
+        }
+        Sort::Bare => Remnant::Nothing,
+    }
+}
+
+/// What is left of a note with this value.
+fn lists_of(value: Value) -> Remnant
+    ensures { result ≡ lists_valued value }
+{
+    match value {
+        Value::Kind(_) => Remnant::Params,
+        Value::Key(_) => Remnant::Nothing,
+    }
+}
+
 /// What a value tells.
 fn was_of<A>(value: Value) -> Was<A>
     ensures { result ≡ as_was value }
@@ -197,6 +288,7 @@ fn was_of<A>(value: Value) -> Was<A>
 }
 
 /// Puts something at the end of a list, which has room for it.
+#[inline]
 fn put<T: Drop>(list: &mut Vec<T>, item: T)
     requires { vec_len list.old < vec_capacity list.old }
     ensures pushed { list.new.items ≡ list.old.items ++ item ∷ [] }

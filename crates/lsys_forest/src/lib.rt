@@ -5,6 +5,7 @@
 //! `specs/Groves.antt`, and its levels in `specs/Rows.antt`.
 #![tactic(auto)]
 
+mod around;
 mod forest;
 mod journal;
 mod kept;
@@ -19,8 +20,10 @@ mod seen;
 mod stock;
 mod sweep;
 mod table;
+mod undo;
 mod walk;
 
+pub use around::Around;
 pub use forest::Forest;
 pub use kept::Kept;
 pub use law::law_of_spots;

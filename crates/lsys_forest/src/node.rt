@@ -4,6 +4,7 @@ ghost use Rattle.lsys_module.specs.declared.symbol.Symbol.TheVariants.{Cut};
 ghost use Rattle.lsys_level.specs.Places.{seen_in, params_in};
 ghost use Rattle.lsys_forest.specs.Nodes.{seen_as};
 ghost use Rattle.lsys_forest.specs.Groves.{HasFew};
+ghost use Rattle.lsys_forest.specs.Slots.{no_footing};
 ghost use Rattle.lsys_forest.specs.SlotChanges.{stored_root};
 
 use lsys_module::Symbol;
@@ -94,6 +95,19 @@ pub(crate) fn params_of(symbol: &Symbol) -> &[i64]
     match symbol {
         Symbol::Module(module) => module.params.values(),
         _ => &[],
+    }
+}
+
+/// Where a node stands that has no others around it.
+#[inline]
+pub(crate) fn nowhere() -> Footing
+    ensures { result ≡ no_footing }
+{
+    Footing {
+        rank: 0,
+        left: None,
+        right: None,
+        mate: None,
     }
 }
 

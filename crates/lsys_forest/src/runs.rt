@@ -12,7 +12,7 @@ ghost use Rattle.lsys_forest.specs.SlotChanges.{KeepsOtherFootings};
 
 use crate::kept::{Kept, release_one};
 use crate::lists::Lists;
-use crate::node::{Entry, Footing, NodeId, Stored};
+use crate::node::{Entry, NodeId, Stored, nowhere};
 use crate::table::Table;
 
 /// Gives a node these parameters, and puts those that it had behind the past ones. It takes no memory.
@@ -110,12 +110,7 @@ pub(crate) fn insert<A: Drop>(
         node,
         params: params.place(list),
         kids: kids.place(&[]),
-        footing: Footing {
-            rank: 0,
-            left: None,
-            right: None,
-            mate: None,
-        },
+        footing: nowhere(),
     };
     table.insert(entry)
 }

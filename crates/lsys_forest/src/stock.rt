@@ -7,12 +7,12 @@ ghost use Rattle.lsys_region.specs.Rooms.{list_room};
 ghost use Rattle.lsys_forest.specs.declared.node.Stored.{Stored};
 ghost use Rattle.lsys_forest.specs.declared.walk.Way.{Way};
 ghost use Rattle.lsys_forest.specs.Shelves.{IsOwner, OnShelf};
-ghost use Rattle.lsys_forest.specs.Slots.{slot_at, rank_at, link_at, mate_at, footing_at, mate_set, live_slots};
+ghost use Rattle.lsys_forest.specs.Slots.{slot_at, footing_at, rank_at, link_at, mate_at, mate_set, live_slots};
 ghost use Rattle.lsys_forest.specs.Answers.{old_answer, Lives, Releases};
 ghost use Rattle.lsys_forest.specs.Groves.{HasFew, IsRooted};
 ghost use Rattle.lsys_forest.specs.Nodes.{Node, root_node, with_node, ForNode};
 ghost use Rattle.lsys_forest.specs.Changes.{KeepsKids, Missing};
-ghost use Rattle.lsys_forest.specs.Stocks.{nodes_of, changes_of, row_at, KeepsRoom, KeepsFootings, undone_slots, undone_footings, DropsParams, TakesKids, noted_answer, nodes_named, named_by};
+ghost use Rattle.lsys_forest.specs.Stocks.{nodes_of, changes_of, row_at, KeepsRoom, KeepsFootings, undone_slots, undone_footings, DropsLeft, TakesLeft, nodes_left, named_by};
 ghost use Rattle.lsys_forest.specs.Ranks.{LinksRow, KeepsLinks, KeepsMates, IsApartFrom, RanksKidsOf};
 ghost use Rattle.lsys_forest.specs.Rows.{depth_in};
 ghost use Rattle.lsys_forest.specs.LastChange.{ForLastChange, StaysUnchanged, UndoDropsMade, GoesBack, TakesOneUp, RemovesNode};
@@ -22,11 +22,11 @@ ghost use Rattle.lsys_forest.specs.SlotChanges.{KeepsOtherFootings};
 ghost use Rattle.lsys_forest.specs.Neighbours.{kids_kept};
 ghost use Rattle.lsys_forest.specs.Regions.{StandIn};
 
-use crate::journal::Journal;
+use crate::journal::{Journal, Line, Sort};
 use crate::kept::{Kept, release_one};
 use crate::lists::Lists;
-use crate::node::{Kind, NodeId, Stored, kind_of, params_of, root_stored};
-use crate::note::{Look, Note, Was};
+use crate::node::{Footing, Kind, NodeId, Stored, kind_of, params_of, root_stored};
+use crate::note::{Look, Note, Remnant, Was};
 use crate::runs::{
     clear, insert, link_row, number, restore_kids, restore_params, swap_kids, swap_params, take_out,
 };
@@ -215,6 +215,14 @@ impl<A: Drop> Parts<A> {
         self.table.mate(node)
     }
 
+    /// Where a node stands among others; nowhere where it doesn't live.
+    #[inline]
+    pub(crate) fn footing(&self, node: NodeId) -> Footing
+        ensures { result ≡ footing_at self.now.footings node }
+    {
+        self.table.footing(node)
+    }
+
     /// How many steps a node is below the root; 0 where it doesn't live.
     pub(crate) fn depth(&self, node: NodeId) -> u32
         ensures { result ≡ depth_in (nodes_of self.now node) }
@@ -304,9 +312,9 @@ impl<A: Drop> Parts<A> {
             stored,
             params_of(symbol),
         );
-        self.journal.push(Note {
+        self.journal.push_bare(Line {
             node: number,
-            was: Was::Missing,
+            sort: Sort::Missing,
         });
         number
     }
@@ -352,10 +360,7 @@ impl<A: Drop> Parts<A> {
         ensures { JournalsAnswer self.old self.new node answer }
     {
         let before = self.table.swap_answer(node, answer);
-        self.journal.push(Note {
-            node,
-            was: Was::Answer(before),
-        });
+        self.journal.push_answer(node, before);
     }
 
     /// Sets the children, and notes those before. It takes no memory.
@@ -366,9 +371,9 @@ impl<A: Drop> Parts<A> {
         ensures { JournalsKids self.old self.new node kids.now }
     {
         swap_kids(&mut self.table, &mut self.kids, node, kids);
-        self.journal.push(Note {
+        self.journal.push_bare(Line {
             node,
-            was: Was::Kids,
+            sort: Sort::Kids,
         });
     }
 
@@ -444,8 +449,8 @@ impl<A: Kept> Parts<A> {
         ensures taken { IfSome result (TakesOneUp A.run_at A.Holds self.old self.new store.old store.new) }
         ensures none { IfNone result (StaysUnchanged self.old self.new store.old store.new) }
     {
-        match self.journal.pop() {
-            Some(note) => Some(take_note(&mut self.params, &mut self.kids, note, store)),
+        match self.journal.take_up(store) {
+            Some(remnant) => Some(take_lists(&mut self.params, &mut self.kids, remnant)),
             None => None,
         }
     }
@@ -458,9 +463,9 @@ impl<A: Kept> Parts<A> {
         ensures { RemovesNode A.run_at A.Holds self.old self.new node store.old store.new }
     {
         let removed = take_out(&mut self.table, &mut self.params, &mut self.kids, node);
-        self.journal.push(Note {
+        self.journal.push_bare(Line {
             node,
-            was: Was::Kids,
+            sort: Sort::Kids,
         });
         release_one(removed.answer, store);
     }
@@ -512,38 +517,27 @@ fn undo_note<A: Kept>(
     }
 }
 
-/// Takes up this note, which was the last: an answer that it kept is released, children come in hand.
-fn take_note<A: Kept>(
-    params: &mut Lists<i64>,
-    kids: &mut Lists<NodeId>,
-    note: Note<A>,
-    store: &mut A::Store,
-) -> Look
+/// Takes up the lists of a note that was the last, by what is left of it: past parameters are freed, children come in hand.
+#[inline]
+fn take_lists(params: &mut Lists<i64>, kids: &mut Lists<NodeId>, remnant: Remnant) -> Look
     requires params { (now : List (Option ℕ)) × IsOwner params.old now }
     requires kids { (now : List (Option ℕ)) × IsOwner kids.old now }
-    requires made { Lives A.run_at A.Holds store.old (noted_answer note.was) }
     ensures params { (now : List (Option ℕ)) → IsOwner params.old now → IsOwner params.new now }
     ensures kids { (now : List (Option ℕ)) → IsOwner kids.old now → IsOwner kids.new now }
-    ensures old_params { OnShelf (DropsParams note.was) params.old params.new }
-    ensures old_kids { OnShelf (TakesKids note.was) kids.old kids.new }
-    ensures released { Releases A.run_at A.Holds (noted_answer note.was) store.old store.new }
-    ensures named { (hand : List ℕ) → named_by result hand ≡ nodes_named note.was note.node hand }
+    ensures old_params { OnShelf (DropsLeft remnant) params.old params.new }
+    ensures old_kids { OnShelf (TakesLeft remnant) kids.old kids.new }
+    ensures named { (hand : List ℕ) → named_by result hand ≡ nodes_left remnant hand }
 {
-    let Note { node, was } = note;
-    match was {
-        Was::Missing => Look::Node(node),
-        Was::Kind(_) => {
+    match remnant {
+        Remnant::Node(node) => Look::Node(node),
+        Remnant::Params => {
             params.drop_past();
             Look::Nothing
         }
-        Was::Key(_) => Look::Nothing,
-        Was::Kids => {
+        Remnant::Kids => {
             kids.take_up();
             Look::Hand
         }
-        Was::Answer(answer) => {
-            release_one(answer, store);
-            Look::Nothing
-        }
+        Remnant::Nothing => Look::Nothing,
     }
 }

@@ -3,11 +3,11 @@ ghost use Rattle.std.specs.Prelude.{◌≡◌, ◌↔◌, IsTrue, ◌+◌, ◌<�
 ghost use Rattle.slab.specs.Slab.{Slab, get};
 ghost use Rattle.lsys_forest.specs.Shelves.{run_at};
 ghost use Rattle.lsys_forest.specs.declared.node.Entry.{Entry};
-ghost use Rattle.lsys_forest.specs.Slots.{slot_at, rank_at, link_at, mate_at, live_slots, run_after, kind_set, key_set, answer_set, answer_before, node_in, node_set, params_set, kids_set, footing_set, rank_set, right_set, links_set, mate_set, PutsEntry, HasEntryAt};
+ghost use Rattle.lsys_forest.specs.Slots.{slot_at, footing_at, rank_at, link_at, mate_at, live_slots, run_after, kind_set, key_set, answer_set, answer_before, node_in, node_set, params_set, kids_set, footing_set, rank_set, right_set, links_set, mate_set, PutsEntry, HasEntryAt};
 ghost use Rattle.lsys_forest.specs.SlotChanges.{KeepsOtherFootings, empty_table, param_run_at, kid_run_at, param_run_or, kid_run_or, entry_params_or, entry_kids_or, Vacates, ChangesSlot, ChangesParamRun, ChangesKidRun, ChangesFooting, FootingBecomes, ChangesEntry};
 ghost use Rattle.lsys_forest.specs.Regions.{HasNoVacantRuns};
 
-use crate::node::{Entry, Kind, NodeId, Stored};
+use crate::node::{Entry, Footing, Kind, NodeId, Stored, nowhere};
 use crate::walk::Way;
 use lsys_region::Run;
 use slab::Slab;
@@ -149,6 +149,17 @@ impl<A: Drop> Table<A> {
         match self.nodes.get(number.0 as usize) {
             Some(entry) => entry.footing.mate,
             None => None,
+        }
+    }
+
+    /// Where a node stands among others; nowhere where it doesn't live.
+    #[inline]
+    pub(crate) fn footing(&self, number: NodeId) -> Footing
+        ensures { result ≡ footing_at self.now.footings number }
+    {
+        match self.nodes.get(number.0 as usize) {
+            Some(entry) => entry.footing,
+            None => nowhere(),
         }
     }
 

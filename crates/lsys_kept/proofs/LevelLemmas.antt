@@ -1,7 +1,7 @@
 -- Who stands beside a node, as the view of a forest tells it.
 use Rattle.std.proofs.Common.{◌≡◌, ◌≢◌, ◌⊎◌, ◌+◌, ◌<◌, ℕ, zero, suc, List, [], ◌∷◌, length, map, slice_get, Option, Some, None, refl, sym, ap, ◌∙◌, arith, inl, inr, subst}
 use Rattle.std.specs.Prelude.{option_map}
-use Rattle.std.specs.Option.{option_and_then}
+use Rattle.std.specs.Option.{option_and_then, unwrap_or}
 use Rattle.std.proofs.lemmas.Bool.{cases_eq}
 use Rattle.std.proofs.lemmas.Grind.{common_steps}
 use Rattle.std.proofs.lemmas.List.{length-map}
@@ -11,12 +11,13 @@ use Rattle.lsys_spec.specs.Levels as L
 use Rattle.lsys_spec.specs.Levels.{AreMates, lineage}
 use Rattle.lsys_spec.specs.Standings.{mate_at, mate_ahead, mate_behind}
 use Rattle.lsys_spec.proofs.Around.{ends_at, items_push, way_pop}
-use Rattle.lsys_level.specs.Spots.{Seen, Push, Pop, Module, Spotted, with_lineage, named, spots_at, level_by, spotted_at, IsSpot, IsMate}
+use Rattle.lsys_level.specs.Spots.{Seen, Push, Pop, Module, Spotted, with_lineage, named, spots_at, level_by, spotted_at, IsBracket, IsSpot, IsMate}
 use Rattle.lsys_change.specs.Seams.{node_before}
 use Rattle.lsys_forest.specs.Nodes.{Node, Nodes}
 use Rattle.lsys_forest.specs.Groves.{Grove, now_of}
 use Rattle.lsys_forest.specs.Rows.{index_in, spot_in, level_nodes, level_spots, complete_levels, level_of_node, place_of_node}
 use Rattle.lsys_forest.specs.Mates.{seen_level}
+use Rattle.lsys_forest.specs.Neighbours.{IsLeftNode, IsRightNode, IsMateNode}
 use Rattle.lsys_forest.proofs.ViewLemmas.{told_is}
 use Rattle.lsys_kept.specs.Neighbours.{numbered_level, mate_on, level_around, IsOnLevel}
 use Rattle.lsys_kept.specs.Seats.{neighbour_told}
@@ -188,3 +189,40 @@ module _ {A : Type 0} where
       let e : Some (spot_in k (now_of f k)).seen ≡ Some (Module v) = sym same ∙ seen in
       let g : (spot_in k (now_of f k)).seen ≡ Module v = cc in
       told_own k ∙ sym (mates_none (now_of f) (level_around f k) (place_of_node f k) k v here g)
+
+  -- 5. who is around
+
+  pub left_told : (f : Grove A) (k : ℕ) (left : Option ℕ) → IsOnLevel f k → IsLeftNode f k left → neighbour_told k (unwrap_or left k) ≡ node_before (level_around f k) (place_of_node f k)
+  left_told f k None h is = left_none f k is
+  left_told f k (Some s) h is = left_is f k s h is
+
+  pub right_told : (f : Grove A) (k : ℕ) (right : Option ℕ) → IsOnLevel f k → IsRightNode f k right → neighbour_told k (unwrap_or right k) ≡ slice_get (level_around f k) (place_of_node f k + 1)
+  right_told f k None h is = right_none f k h is
+  right_told f k (Some s) h is = right_is f k s h is
+
+  -- the symbol of a node of a level
+  spotted_here : (f : Grove A) (k : ℕ) → IsOnLevel f k → spotted_at (complete_levels f) (level_of_node f k) (place_of_node f k) ≡ Some (spot_in k (now_of f k))
+  spotted_here f k h =
+      ap (λ x. slice_get x (place_of_node f k)) (level_is f k h)
+      ∙ slice_get-map (λ i. spot_in i (now_of f i)) (level_around f k) (place_of_node f k)
+      ∙ ap (option_map (λ i. spot_in i (now_of f i))) (there_is f k k h refl h)
+
+  pub mate_told : (f : Grove A) (k : ℕ) (mate : Option ℕ) → IsOnLevel f k → IsMateNode f k mate → neighbour_told k (unwrap_or mate k) ≡ mate_on (now_of f) (level_around f k) (place_of_node f k)
+  mate_told f k None h none = go (spot_in k (now_of f k)).seen refl
+    where
+      here : (s : Seen) → (spot_in k (now_of f k)).seen ≡ s → option_map (λ (x : Spotted). x.seen) (spotted_at (complete_levels f) (level_of_node f k) (place_of_node f k)) ≡ Some s
+      here s e = ap (option_map (λ (x : Spotted). x.seen)) (spotted_here f k h) ∙ ap Some e
+
+      go : (s : Seen) → (spot_in k (now_of f k)).seen ≡ s → neighbour_told k k ≡ mate_on (now_of f) (level_around f k) (place_of_node f k)
+      go Push e = absurd (none (record { bracket = spot_in k (now_of f k); is = spotted_here f k h; kind = subst IsBracket (sym e) tt }))
+      go Pop e = absurd (none (record { bracket = spot_in k (now_of f k); is = spotted_here f k h; kind = subst IsBracket (sym e) tt }))
+      go (Module v) e = no_mate f k v h (here (Module v) e)
+  mate_told f k (Some m) h (there, level, mate) = go there.bracket.seen refl
+    where
+      here : (s : Seen) → there.bracket.seen ≡ s → option_map (λ (x : Spotted). x.seen) (spotted_at (complete_levels f) (level_of_node f k) (place_of_node f k)) ≡ Some s
+      here s e = ap (option_map (λ (x : Spotted). x.seen)) there.is ∙ ap Some e
+
+      go : (s : Seen) → there.bracket.seen ≡ s → neighbour_told k m ≡ mate_on (now_of f) (level_around f k) (place_of_node f k)
+      go Push e = push_mate f k m h (here Push e) level mate
+      go Pop e = pop_mate f k m h (here Pop e) level mate
+      go (Module v) e = absurd (subst IsBracket e there.kind)

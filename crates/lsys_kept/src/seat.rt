@@ -1,10 +1,10 @@
 //! A seat.
 ghost use Rattle.std.specs.Prelude.{◌≡◌, ◌↔◌, IsTrue, Some, false};
+ghost use Rattle.std.specs.Option.{unwrap_or};
 ghost use Rattle.lsys_kept.specs.Neighbours.{neighbours_in, IsOnLevel};
-ghost use Rattle.lsys_kept.specs.Seats.{neighbour_told, seat_told, TellTheSame};
+ghost use Rattle.lsys_kept.specs.Seats.{seat_told, TellTheSame};
 
 use lsys_forest::{Forest, Kept, NodeId};
-use lsys_level::{LevelView, Sight};
 
 /// Who is beside a node, and its mate. Its own number stands for nobody.
 #[derive(Clone, Copy, Drop)]
@@ -36,44 +36,23 @@ pub(crate) fn seat_in<A: Kept>(forest: &Forest<A>, node: NodeId, marked: bool) -
     ensures told { seat_told node (Some result) ≡ neighbours_in forest.now node }
     ensures marked { result.marked ≡ marked }
 {
+    let around = forest.around(node);
     Seat {
-        left: left_or_own(forest, node),
-        right: right_or_own(forest, node),
-        mate: mate_or_own(forest, node),
+        left: or_own(around.left, node),
+        right: or_own(around.right, node),
+        mate: or_own(around.mate, node),
         marked,
     }
 }
 
-/// The left neighbour of a node, or the node itself at the left end.
-fn left_or_own<A: Kept>(forest: &Forest<A>, node: NodeId) -> NodeId
-    requires { IsOnLevel forest.now node }
-    ensures { neighbour_told node result ≡ (neighbours_in forest.now node).left }
+/// The other node, if there is one, and else the node itself.
+#[inline]
+fn or_own(other: Option<NodeId>, node: NodeId) -> NodeId
+    ensures { result ≡ unwrap_or other node }
 {
-    match forest.left(node) {
-        Some(left) => left,
+    match other {
+        Some(found) => found,
         None => node,
-    }
-}
-
-/// The right neighbour of a node, or the node itself at the right end.
-fn right_or_own<A: Kept>(forest: &Forest<A>, node: NodeId) -> NodeId
-    requires { IsOnLevel forest.now node }
-    ensures { neighbour_told node result ≡ (neighbours_in forest.now node).right }
-{
-    match forest.right(node) {
-        Some(right) => right,
-        None => node,
-    }
-}
-
-/// The mate of a bracket; a module has none, and is answered itself.
-fn mate_or_own<A: Kept>(forest: &Forest<A>, node: NodeId) -> NodeId
-    requires { IsOnLevel forest.now node }
-    ensures { neighbour_told node result ≡ (neighbours_in forest.now node).mate }
-{
-    match forest.sight(node) {
-        Sight::Push | Sight::Pop => forest.mate(node),
-        Sight::Module { .. } => node,
     }
 }
 

@@ -31,7 +31,7 @@ invariant_of-self g c =
     record {
       params = e.params;
       kids = e.kids;
-      stock = IsStock-note i.journal.notes c.push.new.self.notes _ past (map (run_list p'.pool) p'.past) past_kids (map (run_list q'.pool) q'.past) c.push.ensures.pushed (let l = ap length pp in omega (arith, l)) (let l = ap length qp in omega (arith, l)) c.self.invariant.stock;
+      stock = IsStock-note i.journal.notes c.push_bare.new.self.notes _ past (map (run_list p'.pool) p'.past) past_kids (map (run_list q'.pool) q'.past) c.push_bare.ensures.pushed (let l = ap length pp in omega (arith, l)) (let l = ap length qp in omega (arith, l)) c.self.invariant.stock;
     }
 
 pub returns-clause-added : goal.returns-clause-added
@@ -46,7 +46,7 @@ returns-clause-added g c =
     let past_kids = map (run_list i.kids.pool) i.kids.past in
     let pp = ap (λ (s : Shelf ℤ). s.past) e.has_params.rest in
     let qp = ap (λ (s : Shelf ℕ). s.past) e.no_kids.rest in
-    let ns = c.push.new.self in
+    let ns = c.push_bare.new.self in
     let params = map (run_list i.params.pool) i.table.param_runs in
     let kids = map (run_list i.kids.pool) i.table.kid_runs in
     let l = params_in c.args.symbol.now in
@@ -59,17 +59,17 @@ returns-clause-added g c =
           ∙ ap (λ x. with_node (shown_nodes i.table.slots params kids) k (Some (node_of x [] s))) c.params_of.ensures.params
           ∙ ap (λ y. with_node (shown_nodes i.table.slots params kids) k (Some (record n { seen = y }))) c.kind_of.ensures;
       noted =
-          ap (λ ns. changes_told ns (map (run_list p'.pool) p'.past) (map (run_list q'.pool) q'.past)) c.push.ensures.pushed
+          ap (λ ns. changes_told ns (map (run_list p'.pool) p'.past) (map (run_list q'.pool) q'.past)) c.push_bare.ensures.pushed
           ∙ ap (λ x. changes_told (i.journal.notes ++ record { node = k; was = was.Missing } ∷ []) x (map (run_list q'.pool) q'.past)) pp
           ∙ ap (changes_told (i.journal.notes ++ record { node = k; was = was.Missing } ∷ []) past) qp
           ∙ told_plain i.journal.notes (record { node = k; was = was.Missing }) past past_kids c.self.invariant.stock.past_params_long c.self.invariant.stock.past_kids_long;
-      notes = ap length c.push.ensures.pushed ∙ length_push i.journal.notes _;
+      notes = ap length c.push_bare.ensures.pushed ∙ length_push i.journal.notes _;
       live = e.live;
       capacity = e.capacity;
       note_room =
           let x = ap past_room e.has_params.rest in
           let y = ap past_room e.no_kids.rest in
-          omega (arith, x, y, c.push.ensures.room);
+          omega (arith, x, y, c.push_bare.ensures.room);
       param_room = subst (λ m. i.params.pool.spare ≤ p'.pool.spare + list_room m) c.params_of.ensures.params e.has_params.spare;
       kid_room = omega (arith, e.no_kids.spare, room_nil 0);
       hand = ap (λ (r : Shelf ℕ). r.hand) e.no_kids.rest;
@@ -89,5 +89,5 @@ insert-number-requires-clause-numbers g c = grind (arith, common_steps)
 pub insert-number-requires-clause-room : goal.insert-number-requires-clause-room
 insert-number-requires-clause-room g c = grind (arith, common_steps)
 
-pub push-requires : goal.push-requires
-push-requires g c = grind (arith, common_steps)
+pub push_bare-requires-clause-place : goal.push_bare-requires-clause-place
+push_bare-requires-clause-place g c = grind (arith, common_steps)

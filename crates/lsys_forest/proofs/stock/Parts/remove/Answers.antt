@@ -52,7 +52,7 @@ invariant_of-self g c =
     record {
       params = e.params;
       kids = e.kids;
-      stock = IsStock-note i.journal.notes c.push.new.self.notes _ (map (run_list i.params.pool) i.params.past) (map (run_list p'.pool) p'.past) (map (run_list i.kids.pool) i.kids.past) (map (run_list q'.pool) q'.past) c.push.ensures.pushed (let l = ap length pp in omega (arith, l)) (ap length qp ∙ length_push (map (run_list i.kids.pool) i.kids.past) _) c.self.invariant.stock;
+      stock = IsStock-note i.journal.notes c.push_bare.new.self.notes _ (map (run_list i.params.pool) i.params.past) (map (run_list p'.pool) p'.past) (map (run_list i.kids.pool) i.kids.past) (map (run_list q'.pool) q'.past) c.push_bare.ensures.pushed (let l = ap length pp in omega (arith, l)) (ap length qp ∙ length_push (map (run_list i.kids.pool) i.kids.past) _) c.self.invariant.stock;
     }
 
 pub returns : goal.returns
@@ -63,7 +63,7 @@ returns g c =
     let t' = c.take_out-removed.new.table in
     let p' = c.take_out-removed.new.params in
     let q' = c.take_out-removed.new.kids in
-    let ns = c.push.new.self in
+    let ns = c.push_bare.new.self in
     let params = map (run_list i.params.pool) i.table.param_runs in
     let kids = map (run_list i.kids.pool) i.table.kid_runs in
     let past = map (run_list i.params.pool) i.params.past in
@@ -83,12 +83,12 @@ returns g c =
           kids_same = e.no_kids.comes.others;
         }) (ap (option_map (node_of (row_at new.params k) (row_at new.kids k))) cleared);
         noted =
-            ap (λ ns. changes_told ns (map (run_list p'.pool) p'.past) (map (run_list q'.pool) q'.past)) c.push.ensures.pushed
+            ap (λ ns. changes_told ns (map (run_list p'.pool) p'.past) (map (run_list q'.pool) q'.past)) c.push_bare.ensures.pushed
             ∙ ap (λ p. changes_told (i.journal.notes ++ record { node = k; was = was.Kids } ∷ []) p (map (run_list q'.pool) q'.past)) pp
             ∙ ap (changes_told (i.journal.notes ++ record { node = k; was = was.Kids } ∷ []) past) qp
             ∙ told_kid i.journal.notes (record { node = k; was = was.Kids }) past past_kids (row_at kids k) c.self.invariant.stock.past_params_long c.self.invariant.stock.past_kids_long
             ∙ ap (λ (m : Node g.row.A.Denot). changes_told i.journal.notes past past_kids ++ record { node = k; before = OldKids m.kids } ∷ []) s.2;
-        notes = ap length c.push.ensures.pushed ∙ length_push i.journal.notes _;
+        notes = ap length c.push_bare.ensures.pushed ∙ length_push i.journal.notes _;
         live = let l = ap live_slots e.slots in let f = live_gone i.table.slots k s.0 (slot_some i.table.slots k s.0 s.1) in omega (arith, l, f);
         room = record {
           capacity = e.capacity;
@@ -98,7 +98,7 @@ returns g c =
               let x = ap past_room e.no_params.cleared in
               let l = ap length qp in
               let m = length_push past_kids (row_at kids k) in
-              omega (arith, f, n, x, l, m, c.push.ensures.room, e.no_kids.places);
+              omega (arith, f, n, x, l, m, c.push_bare.ensures.room, e.no_kids.places);
           param_room = let x = ap (λ (r : Shelf ℤ). r.spare) e.no_params.cleared in omega (arith, x);
           kid_room = omega (arith, e.no_kids.spare, room_nil 0);
         };
@@ -109,5 +109,5 @@ returns g c =
     )
     ))
 
-pub push-requires : goal.push-requires
-push-requires g c = grind (arith, common_steps)
+pub push_bare-requires-clause-place : goal.push_bare-requires-clause-place
+push_bare-requires-clause-place g c = grind (arith, common_steps)

@@ -35,7 +35,7 @@ invariant_of-self g c =
     record {
       params = subst (λ r. IsOwner i.params r) (sym params) c.self.invariant.params;
       kids = e.owned;
-      stock = IsStock-note i.journal.notes c.push.new.self.notes _ (map (run_list i.params.pool) i.params.past) (map (run_list i.params.pool) i.params.past) (map (run_list i.kids.pool) i.kids.past) (map (run_list c.swap_kids.new.lists.pool) c.swap_kids.new.lists.past) c.push.ensures.pushed (omega arith) (ap length behind ∙ length_push (map (run_list i.kids.pool) i.kids.past) _) c.self.invariant.stock;
+      stock = IsStock-note i.journal.notes c.push_bare.new.self.notes _ (map (run_list i.params.pool) i.params.past) (map (run_list i.params.pool) i.params.past) (map (run_list i.kids.pool) i.kids.past) (map (run_list c.swap_kids.new.lists.pool) c.swap_kids.new.lists.past) c.push_bare.ensures.pushed (omega arith) (ap length behind ∙ length_push (map (run_list i.kids.pool) i.kids.past) _) c.self.invariant.stock;
     }
 
 pub returns : goal.returns
@@ -44,7 +44,7 @@ returns g c =
     let e = c.swap_kids.ensures in
     let t' = c.swap_kids.new.table in
     let q' = c.swap_kids.new.lists in
-    let ns = c.push.new.self in
+    let ns = c.push_bare.new.self in
     let k = c.args.node in
     let params = map (run_list i.params.pool) i.table.param_runs in
     let kids = map (run_list i.kids.pool) i.table.kid_runs in
@@ -57,14 +57,14 @@ returns g c =
           ∙ kids_changed i.table.slots params kids (map (run_list q'.pool) t'.kid_runs) k c.args.kids.now n is e.swapped.comes;
       noted =
           let same = kids_were i.table.slots params kids k n is in
-          ap (λ ns. changes_told ns past (map (run_list q'.pool) q'.past)) c.push.ensures.pushed
+          ap (λ ns. changes_told ns past (map (run_list q'.pool) q'.past)) c.push_bare.ensures.pushed
           ∙ ap (changes_told (i.journal.notes ++ record { node = k; was = was.Kids } ∷ []) past) behind
           ∙ told_kid i.journal.notes (record { node = k; was = was.Kids }) past (map (run_list i.kids.pool) i.kids.past) (row_at kids k) c.self.invariant.stock.past_params_long c.self.invariant.stock.past_kids_long
           ∙ ap (λ x. changes_told i.journal.notes past (map (run_list i.kids.pool) i.kids.past) ++ record { node = k; before = OldKids x } ∷ []) same;
-      notes = ap length c.push.ensures.pushed ∙ length_push i.journal.notes _;
+      notes = ap length c.push_bare.ensures.pushed ∙ length_push i.journal.notes _;
       live = let same = ap (λ (x : SlotTable g.row.A.Denot). x.slots) e.table in let l = ap live_slots same in omega (arith, l);
       capacity = ap (λ (x : SlotTable g.row.A.Denot). x.capacity) e.table;
-      note_room = let l = ap length behind in let m = length_push (map (run_list i.kids.pool) i.kids.past) (row_at kids k) in omega (arith, c.push.ensures.room, e.swapped.places, l, m);
+      note_room = let l = ap length behind in let m = length_push (map (run_list i.kids.pool) i.kids.past) (row_at kids k) in omega (arith, c.push_bare.ensures.room, e.swapped.places, l, m);
       param_room = omega arith;
       kid_room = e.swapped.spare;
       hand = ap (λ (s : Shelf ℕ). s.hand) e.swapped.swapped;
@@ -74,5 +74,5 @@ returns g c =
 pub swap_kids-requires-clause-room : goal.swap_kids-requires-clause-room
 swap_kids-requires-clause-room g c = grind (arith, common_steps)
 
-pub push-requires : goal.push-requires
-push-requires g c = grind (arith, common_steps)
+pub push_bare-requires-clause-place : goal.push_bare-requires-clause-place
+push_bare-requires-clause-place g c = grind (arith, common_steps)

@@ -4,7 +4,7 @@ use Rattle.lsys_forest.specs.Ranks.{AreRanked, AreLinked}
 use Rattle.lsys_forest.proofs.RankLemmas.{still_ranked, reset_ranked}
 use Rattle.lsys_forest.proofs.LinkLemmas.{still_linked, reset_linked}
 use Rattle.lsys_forest.specs.Rows.{depth_in}
-use Rattle.lsys_forest.proofs.forest.undo_one.Goals as goal
+use Rattle.lsys_forest.proofs.undo.undo_one.Goals as goal
 
 pub returns-in-Some-clause-ranked : goal.returns-in-Some-clause-ranked
 returns-in-Some-clause-ranked g c =

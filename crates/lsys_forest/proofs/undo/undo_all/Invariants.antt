@@ -5,7 +5,7 @@ use Rattle.lsys_forest.specs.Stocks.{nodes_of, changes_of, KeepsRoom}
 use Rattle.lsys_forest.specs.Answers.{answers, LiveApart, FreesUnheld}
 use Rattle.lsys_forest.specs.Groves.{AreSound}
 use Rattle.lsys_forest.specs.Ranks.{AreRanked, AreLinked}
-use Rattle.lsys_forest.proofs.forest.undo_all.Given as goal
+use Rattle.lsys_forest.proofs.undo.undo_all.Given as goal
 
 abbrev pub invariant-loop-root : goal.invariant-loop-root
 invariant-loop-root g l = record {

@@ -7,7 +7,7 @@ use Rattle.lsys_forest.proofs.StockLemmas.{told_none}
 use Rattle.lsys_forest.proofs.SoundLemmas.{undone_last}
 use Rattle.lsys_forest.proofs.AnswerLemmas.{IsStep, undo_step, lost_made, step_made, step_follows, follows_on}
 use Rattle.lsys_forest.proofs.RankLemmas.{undone_sound}
-use Rattle.lsys_forest.proofs.forest.undo_all.Goals as goal
+use Rattle.lsys_forest.proofs.undo.undo_all.Goals as goal
 
 pub undo_one-requires : goal.undo_one-requires
 undo_one-requires g c = record {
