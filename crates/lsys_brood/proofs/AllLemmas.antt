@@ -18,7 +18,7 @@ use Rattle.lsys_brood.proofs.StepLemmas.{found_there, found_before, whole_there,
 use Rattle.lsys_brood.proofs.PlacedLemmas.{some_of, set_is, set_other, spends_none, spends_then, made_from, made_keep, turned_keep, keeps_keep, kinds_keep, placed_next}
 use Rattle.lsys_brood.proofs.FoundLemmas.{found_has, found_once, found_old, made_named}
 
-take_none : {X : Type 0} (xs : List X) → take 0 xs ≡ []
+pub take_none : {X : Type 0} (xs : List X) → take 0 xs ≡ []
 take_none [] = refl
 take_none (x ∷ xs) = refl
 

@@ -1,13 +1,19 @@
 -- The steps by which the children of one parent are renewed.
-use Rattle.std.specs.Prelude.{◌≡◌, ◌≢◌, ◌⊎◌, ◌+◌, ◌≤◌, ℕ, Bool, true, false, List, [], ◌∷◌, length, map, Option, Some, None, IsSome}
+use Rattle.std.specs.Prelude.{◌≡◌, ◌≢◌, ◌⊎◌, ◌+◌, ◌≤◌, ℕ, Bool, true, false, List, [], ◌∷◌, ◌++◌, length, Option, Some, None, IsSome}
 use Rattle.lsys_spec.specs.Rows.{In, AreApart}
+use Rattle.lsys_module.specs.declared.symbol.Symbol.{Symbol}
 use Rattle.lsys_module.specs.declared.symbol.Symbol.TheVariants.{Cut}
 use Rattle.lsys_level.specs.Places.{params_in}
 use Rattle.lsys_region.specs.Rooms.{list_room}
-use Rattle.lsys_forest.specs.Nodes.{Node, Nodes}
-use Rattle.lsys_forest.specs.Groves.{Grove, now_of, rest_of, IsLive, spare_params, Spends}
+use Rattle.lsys_forest.specs.Nodes.{Node, Nodes, with_kids}
+use Rattle.lsys_forest.specs.Groves.{AreKids, Grove, Sets, now_of, rest_of, IsLive, spare_kids, spare_params, Spends}
 use Rattle.lsys_brood.specs.declared.child.Child.{Child}
-use Rattle.lsys_brood.specs.Children.{found_each, unwanted_of, AreFoundOrBorn, AreWhole, ToldNodes, TellsAll, IsNewNode, HasTurned, KeepsSymbol, KeepsKind, births, notes_for, params_for}
+use Rattle.lsys_brood.specs.declared.number.Number.{Number}
+use Rattle.lsys_brood.specs.Children.{found_each, unwanted_of, AreFoundOrBorn, AreWhole, ToldNodes, TellsAll, TellsIf, IsNewNode, HasTurned, KeepsSymbol, KeepsKind, births, notes_for, params_for}
+
+-- a child with this number, this symbol and this key
+abbrev pub new_kid : Number → Symbol → ℕ → Child
+new_kid number symbol key = record { number = number; symbol = symbol; key = key }
 
 -- one of these was found
 abbrev pub WasFound : ℕ → List (Option ℕ) → Type 0
@@ -83,6 +89,10 @@ module _ {A : Type 0} where
     pub once : FoundOnce os
     pub found : (k : ℕ) → WasFound k os → IsOldChild f parent k
 
+  -- there is room for new nodes of all of them
+  abbrev pub CanBear : Grove A → ℕ → List Child → ToldNodes → Type 0
+  CanBear f parent ws t = CanPlaceAll f parent ws (none_found ws) t
+
   -- one child was placed
   pub record IsPlaced (old new : Grove A) (parent : ℕ) (w : Child) (o : Option ℕ) (k : ℕ) : Type 0 where
     pub made : (p : Node A) → now_of old parent ≡ Some p → AreFoundOrBorn (now_of old) (now_of new) parent (p.depth + 1) (w ∷ []) (o ∷ []) (k ∷ [])
@@ -99,6 +109,29 @@ module _ {A : Type 0} where
     pub changes : ChangesAmong old new ks
     pub spends : Spends old new (births os) (params_for ws) 0 (notes_for os)
 
-  -- the children of a node that had none
-  abbrev pub AreBorn : Grove A → Grove A → ℕ → List Child → List ℕ → Type 0
-  AreBorn old new parent ws ks = HavePlaces old new parent ws (none_found ws) ks
+  -- New children of a node came to live, one behind the other, and were told: these are their nodes.
+  pub record AreBorn (old new : Grove A) (parent : ℕ) (ws : List Child) (before after : ToldNodes) : Type 0 where
+    pub nodes : List ℕ
+    pub places : HavePlaces old new parent ws (none_found ws) nodes
+    pub told : TellsNodes (now_of old) (now_of new) nodes before after
+    pub kinds : KindsTell (now_of old) (now_of new) nodes true
+    pub added : after.added ≡ before.added ++ nodes
+
+  -- these nodes can be made the children of a node
+  pub record CanAdopt (f : Grove A) (parent : ℕ) (ks : List ℕ) (t : ToldNodes) : Type 0 where
+    pub parent_lives : IsLive f parent
+    pub kids : AreKids (now_of f) f.root parent ks
+    pub notes : 1 ≤ f.spare_notes
+    pub room : list_room ks ≤ spare_kids f
+    pub told : 1 ≤ t.room
+
+  -- they were made its children, and it was told if it had others
+  pub record Adopts (old new : Grove A) (parent : ℕ) (ks : List ℕ) (before after : ToldNodes) : Type 0 where
+    pub set : (n : Node A) → now_of old parent ≡ Some n → Sets old new parent (with_kids ks n)
+    pub spends : Spends old new 0 0 (list_room ks) 1
+    pub touched : (n : Node A) → now_of old parent ≡ Some n
+        → TellsIf (λ k. n.kids ≢ ks) (λ k. n.kids ≡ ks) parent before.touched after.touched
+    pub changed : after.changed ≡ before.changed
+    pub added : after.added ≡ before.added
+    pub gone : after.gone ≡ before.gone
+    pub room : before.room ≤ after.room + 1

@@ -139,8 +139,7 @@ impl Brood {
         ensures refused { OnErr result ((forest.new ≡ forest.old) × (changes.new ≡ changes.old)) }
     {
         if forest.children(parent).is_empty() {
-            empty_for(&mut self.nodes, wanted.len())?;
-            bear_all(forest, parent, wanted, &mut self.nodes, changes);
+            bear_all(forest, parent, wanted, changes);
             return Ok(());
         }
         self.find(forest, parent, wanted)?;

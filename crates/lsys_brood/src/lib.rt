@@ -14,3 +14,4 @@ pub use changes::Changes;
 pub use child::Child;
 pub use need::Need;
 pub use number::Number;
+pub use renew::{adopt, bear};

@@ -1,5 +1,5 @@
 //! The step for one parent.
-ghost use Rattle.std.specs.Prelude.{◌≡◌, ◌≢◌, ◌+◌, ◌≤◌, ◌<◌, [], ◌∷◌, ◌++◌, length, IsTrue, true, false, Some, None, vec_capacity};
+ghost use Rattle.std.specs.Prelude.{◌≡◌, ◌≢◌, ◌+◌, ◌≤◌, ◌<◌, [], ◌∷◌, ◌++◌, length, IsTrue, true, false, Some, None, drop, vec_capacity};
 ghost use Rattle.lsys_module.specs.declared.symbol.Symbol.TheVariants.{Cut};
 ghost use Rattle.lsys_level.specs.Places.{seen_in, params_in};
 ghost use Rattle.lsys_region.specs.Rooms.{list_room};
@@ -7,11 +7,12 @@ ghost use Rattle.lsys_forest.specs.Nodes.{with_seen, with_key, with_kids};
 ghost use Rattle.lsys_forest.specs.Groves.{now_of, rest_of, changes_in, IsLive, IsRooted, spare_params, spare_kids, kept_in, AreKids, Spends};
 ghost use Rattle.lsys_brood.specs.Matches.{AreDifferent};
 ghost use Rattle.lsys_brood.specs.Children.{numbers_of, AreWhole};
-ghost use Rattle.lsys_brood.specs.Steps.{IsPlaced, HavePlaces, AreBorn, CanPlace, CanPlaceAll, KindsTell, none_found};
+ghost use Rattle.lsys_brood.specs.Steps.{IsPlaced, HavePlaces, AreBorn, Adopts, CanAdopt, CanBear, CanPlace, CanPlaceAll, KindsTell, new_kid};
 ghost use Rattle.lsys_brood.specs.Families.{AreMatchedKids, HasNoKids, FlagFallsByKind, HasRoomToRenew, RenewsKids, SetsBy, SpendsNeedOf, TellsEach, TellsKids, TellsKind, TellsNode, TellsOtherKids};
 
 use crate::changes::{Changes, push};
 use crate::child::Child;
+use crate::number::Number;
 use lsys_forest::{Forest, Kept, NodeId};
 use lsys_level::Sight;
 use lsys_module::Symbol;
@@ -29,25 +30,22 @@ fn has_kind<A: Kept>(forest: &Forest<A>, node: NodeId, symbol: &Symbol) -> bool
     }
 }
 
-/// Adds a new node for a child, and tells it.
-fn bear<A: Kept>(
+/// Adds a new node under a parent for a child with this number, this symbol and this key, and tells it. It takes no memory.
+pub fn bear<A: Kept>(
     forest: &mut Forest<A>,
     parent: NodeId,
-    child: &Child,
+    number: Number,
+    symbol: &Symbol,
+    key: u64,
     changes: &mut Changes,
 ) -> NodeId
-    requires { CanPlace forest.old parent child.now None changes.old }
-    ensures placed { IsPlaced forest.old forest.new parent child.now None result }
+    requires { CanPlace forest.old parent (new_kid number symbol.now key) None changes.old }
+    ensures placed { IsPlaced forest.old forest.new parent (new_kid number symbol.now key) None result }
     ensures kept { kept_in forest.new ≡ kept_in forest.old }
     ensures told { TellsNode forest.old forest.new result changes.old changes.new }
+    ensures added { changes.new.added ≡ changes.old.added ++ result ∷ [] }
 {
-    let node = forest.add(
-        parent,
-        child.number.code,
-        child.number.count,
-        &child.symbol,
-        child.key,
-    );
+    let node = forest.add(parent, number.code, number.count, symbol, key);
     changes.tell_added(node);
     node
 }
@@ -133,7 +131,14 @@ fn place<A: Kept>(
             *keep_kinds &= renew(forest, parent, node, child, changes);
             node
         }
-        None => bear(forest, parent, child, changes),
+        None => bear(
+            forest,
+            parent,
+            child.number,
+            &child.symbol,
+            child.key,
+            changes,
+        ),
     }
 }
 
@@ -240,21 +245,34 @@ fn bear_each<A: Kept>(
     forest: &mut Forest<A>,
     parent: NodeId,
     wanted: &[Child],
-    nodes: &mut Vec<NodeId>,
     changes: &mut Changes,
 )
-    requires room { CanPlaceAll forest.old parent wanted.now (none_found wanted.now) changes.old }
-    requires empty { nodes.old.items ≡ [] }
-    requires places { length wanted.now ≤ vec_capacity nodes.old }
-    ensures placed { AreBorn forest.old forest.new parent wanted.now nodes.new.items }
-    ensures told { TellsEach forest.old forest.new nodes.new.items changes.old changes.new }
-    ensures kinds { KindsTell (now_of forest.old) (now_of forest.new) nodes.new.items true }
+    requires room { CanBear forest.old parent wanted.now changes.old }
+    ensures born { AreBorn forest.old forest.new parent wanted.now changes.old changes.new }
     ensures kept { kept_in forest.new ≡ kept_in forest.old }
 {
     for child in wanted {
-        let node = bear(forest, parent, child, changes);
-        push(nodes, node);
+        bear(
+            forest,
+            parent,
+            child.number,
+            &child.symbol,
+            child.key,
+            changes,
+        );
     }
+}
+
+/// Makes the nodes that were told to be new, but for the first so many, the children of a node, and tells it if it had others.
+/// It takes no memory.
+pub fn adopt<A: Kept>(forest: &mut Forest<A>, parent: NodeId, from: usize, told: &mut Changes)
+    requires within { from ≤ length told.old.added }
+    requires kids { CanAdopt forest.old parent (drop from told.old.added) told.old }
+    ensures adopted { Adopts forest.old forest.new parent (drop from told.old.added) told.old told.new }
+    ensures kept { kept_in forest.new ≡ kept_in forest.old }
+{
+    let had_others = set_list(forest, parent, &told.added()[from..]);
+    tell_family(told, parent, had_others, true);
 }
 
 /// Makes the children that are wanted of a node that has none, and tells what differs: nothing is matched.
@@ -262,7 +280,6 @@ pub(crate) fn bear_all<A: Kept>(
     forest: &mut Forest<A>,
     parent: NodeId,
     wanted: &[Child],
-    nodes: &mut Vec<NodeId>,
     changes: &mut Changes,
 )
     requires sound { IsRooted forest.old.root (changes_in forest.old) (now_of forest.old) }
@@ -271,8 +288,6 @@ pub(crate) fn bear_all<A: Kept>(
     requires apart { AreDifferent (numbers_of wanted.now) }
     requires whole { AreWhole wanted.now }
     requires room { HasRoomToRenew forest.old parent wanted.now changes.old }
-    requires empty { nodes.old.items ≡ [] }
-    requires places { length wanted.now ≤ vec_capacity nodes.old }
     ensures children { RenewsKids forest.old forest.new parent wanted.now }
     ensures told { TellsKids forest.old forest.new parent wanted.now changes.old changes.new }
     ensures rest { rest_of forest.new ≡ rest_of forest.old }
@@ -280,7 +295,7 @@ pub(crate) fn bear_all<A: Kept>(
     ensures kept { kept_in forest.new ≡ kept_in forest.old }
     ensures spends { SpendsNeedOf forest.old forest.new parent wanted.now }
 {
-    bear_each(forest, parent, wanted, nodes, changes);
-    let had_others = set_list(forest, parent, nodes);
-    tell_family(changes, parent, had_others, true);
+    let from = changes.added().len();
+    bear_each(forest, parent, wanted, changes);
+    adopt(forest, parent, from, changes);
 }

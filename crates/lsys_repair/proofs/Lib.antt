@@ -21,3 +21,4 @@ pub mod Lengths
 pub mod Finishing
 pub mod Depths
 pub mod AllNew
+pub mod Births

@@ -6,6 +6,7 @@ pub mod MadeLevels
 pub mod Counts
 pub mod RootChildren
 pub mod MadeChildren
+pub mod Sources
 pub mod WantedOf
 pub mod WalkedParents
 pub mod Nexts

@@ -50,9 +50,13 @@ abbrev pub GoneFromThem : Numbering → Grove Kept → List Parent → ToldNodes
 GoneFromThem g f ps before after =
     after.gone ≡ before.gone ++ gone_of (numbering_of g) (now_of f) ps
 
--- where there was memory, the children of one parent are those that are wanted of it, and it was told what differs
+-- the children of one parent are those that are wanted of it, and it was told what differs
+abbrev pub Renews : Numbering → Grove Kept → Grove Kept → Parent → ToldNodes → ToldNodes → Type 0
+Renews g old new p before after =
+    (n : Node Kept) → now_of old p.node ≡ Some n
+    → IsRenewed (numbering_of g) old new p n before after
+
+-- where there was memory
 abbrev pub RenewsIfOk : {X E : Type 0} → Result X E → Numbering → Grove Kept → Grove Kept
     → Parent → ToldNodes → ToldNodes → Type 0
-RenewsIfOk result g old new p before after =
-    OnOk result ((n : Node Kept) → now_of old p.node ≡ Some n
-    → IsRenewed (numbering_of g) old new p n before after)
+RenewsIfOk result g old new p before after = OnOk result (Renews g old new p before after)

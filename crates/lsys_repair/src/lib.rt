@@ -16,6 +16,7 @@ mod opens;
 mod parent;
 pub mod refusals;
 pub mod renewals;
+mod source;
 pub mod starting;
 pub mod uppers;
 mod walk;

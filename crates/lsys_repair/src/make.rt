@@ -2,17 +2,22 @@
 ghost use Rattle.std.specs.Prelude.{◌≡◌, ◌≤◌, OnOk, OnErr, length};
 ghost use Rattle.lsys_spec.specs.Draws.{number_base};
 ghost use Rattle.lsys_forest.specs.Groves.{now_of, rest_of, changes_in, kept_in, IsLive, IsRooted};
+ghost use Rattle.lsys_reading.specs.declared.parts.Lineage.TheVariants.{Places};
 ghost use Rattle.lsys_brood.specs.Children.{HasRoomFor};
+ghost use Rattle.lsys_brood.specs.Families.{HasNoKids};
 ghost use Rattle.lsys_repair.specs.Answers.{kept_successors};
 ghost use Rattle.lsys_repair.specs.Parents.{nodes_in, HasParents};
-ghost use Rattle.lsys_repair.specs.MadeChildren.{needs_of, AreAllRenewed, TellsOfThem, GoneFromThem, SpendsNeeds, CameAsCounted, need_of_one, RenewsIfOk};
+ghost use Rattle.lsys_repair.specs.MadeChildren.{needs_of, AreAllRenewed, TellsOfThem, GoneFromThem, SpendsNeeds, CameAsCounted, need_of_one, Renews, RenewsIfOk};
+ghost use Rattle.lsys_repair.specs.Sources.{IsBodyFor, IsWantedAlone, TellsSource};
 
 use crate::parent::{Parent, fill_for};
+use crate::source::{SymbolSource, source_of};
+use lsys_bodies::SharedBody;
 use lsys_brood::{Brood, Changes};
 use lsys_forest::Forest;
 use lsys_kept::KeptAnswer;
 use lsys_reading::Lineage;
-use lsys_wanted::Wanted;
+use lsys_wanted::{Wanted, bear_by_place, symbol_seen};
 use std::alloc::AllocError;
 use std::sync::ledger::Ledger;
 
@@ -73,7 +78,149 @@ fn make_one<L: Ledger>(
     ensures refused { OnErr result (forest.new ≡ forest.old) }
 {
     let node = parent.node;
+    match numbering {
+        Lineage::Places if forest.children(node).is_empty() => {
+            make_anew(forest, parent, wanted, brood, changes)
+        }
+        _ => make_listed(forest, numbering, parent, wanted, brood, changes),
+    }
+}
+
+/// Makes the children of one parent that has none, where they are numbered by their places: straight from what replaces it,
+/// where that can be read while the forest changes.
+///
+/// # Errors
+///
+/// Want of memory. The forest stays then.
+fn make_anew<L: Ledger>(
+    forest: &mut Forest<KeptAnswer<L>>,
+    parent: Parent,
+    wanted: &mut Wanted,
+    brood: &mut Brood,
+    changes: &mut Changes,
+) -> Result<(), AllocError>
+    requires sound { IsRooted forest.old.root (changes_in forest.old) (now_of forest.old) }
+    requires lives { IsLive forest.old parent.node }
+    requires bare { HasNoKids forest.old parent.node }
+    requires short { length (kept_successors (now_of forest.old) parent.node) ≤ number_base }
+    requires room { HasRoomFor forest.old changes.old (need_of_one Places forest.old parent) }
+    ensures renewed { RenewsIfOk result Places forest.old forest.new parent changes.old changes.new }
+    ensures rest { rest_of forest.new ≡ rest_of forest.old }
+    ensures root { forest.new.root ≡ forest.old.root }
+    ensures kept { kept_in forest.new ≡ kept_in forest.old }
+    ensures refused { OnErr result (forest.new ≡ forest.old) }
+{
+    let source = source_of(forest, &parent);
+    make_from(forest, parent, &source, wanted, brood, changes)
+}
+
+/// The same, by where the symbols stand that are wanted of the parent.
+///
+/// # Errors
+///
+/// Want of memory. The forest stays then.
+fn make_from<L: Ledger>(
+    forest: &mut Forest<KeptAnswer<L>>,
+    parent: Parent,
+    source: &SymbolSource,
+    wanted: &mut Wanted,
+    brood: &mut Brood,
+    changes: &mut Changes,
+) -> Result<(), AllocError>
+    requires sound { IsRooted forest.old.root (changes_in forest.old) (now_of forest.old) }
+    requires lives { IsLive forest.old parent.node }
+    requires bare { HasNoKids forest.old parent.node }
+    requires short { length (kept_successors (now_of forest.old) parent.node) ≤ number_base }
+    requires source { TellsSource forest.old parent source.now }
+    requires room { HasRoomFor forest.old changes.old (need_of_one Places forest.old parent) }
+    ensures renewed { RenewsIfOk result Places forest.old forest.new parent changes.old changes.new }
+    ensures rest { rest_of forest.new ≡ rest_of forest.old }
+    ensures root { forest.new.root ≡ forest.old.root }
+    ensures kept { kept_in forest.new ≡ kept_in forest.old }
+    ensures refused { OnErr result (forest.new ≡ forest.old) }
+{
+    match source {
+        SymbolSource::Itself => {
+            bear_itself(forest, parent, changes);
+            Ok(())
+        }
+        SymbolSource::Body(body) => {
+            bear_body(forest, parent, body, changes);
+            Ok(())
+        }
+        SymbolSource::Other => make_listed(forest, Lineage::Places, parent, wanted, brood, changes),
+    }
+}
+
+/// Makes the children of one parent those that are listed as wanted before.
+///
+/// # Errors
+///
+/// Want of memory. The forest stays then.
+fn make_listed<L: Ledger>(
+    forest: &mut Forest<KeptAnswer<L>>,
+    numbering: Lineage,
+    parent: Parent,
+    wanted: &mut Wanted,
+    brood: &mut Brood,
+    changes: &mut Changes,
+) -> Result<(), AllocError>
+    requires lives { IsLive forest.old parent.node }
+    requires short { length (kept_successors (now_of forest.old) parent.node) ≤ number_base }
+    requires room { HasRoomFor forest.old changes.old (need_of_one numbering forest.old parent) }
+    ensures renewed { RenewsIfOk result numbering forest.old forest.new parent changes.old changes.new }
+    ensures sound { OnOk result
+        (IsRooted forest.old.root (changes_in forest.old) (now_of forest.old)) }
+    ensures rest { rest_of forest.new ≡ rest_of forest.old }
+    ensures root { forest.new.root ≡ forest.old.root }
+    ensures kept { kept_in forest.new ≡ kept_in forest.old }
+    ensures refused { OnErr result (forest.new ≡ forest.old) }
+{
+    let node = parent.node;
     fill_for(wanted, forest, numbering, parent)?;
     brood.change(forest, node, wanted.children(), changes)?;
     Ok(())
+}
+
+/// Makes the one child of a parent that has none, where nothing replaces it and children are numbered by their places: itself.
+fn bear_itself<L: Ledger>(forest: &mut Forest<KeptAnswer<L>>, parent: Parent, changes: &mut Changes)
+    requires sound { IsRooted forest.old.root (changes_in forest.old) (now_of forest.old) }
+    requires lives { IsLive forest.old parent.node }
+    requires bare { HasNoKids forest.old parent.node }
+    requires alone { IsWantedAlone forest.old parent }
+    requires room { HasRoomFor forest.old changes.old (need_of_one Places forest.old parent) }
+    ensures renewed { Renews Places forest.old forest.new parent changes.old changes.new }
+    ensures rest { rest_of forest.new ≡ rest_of forest.old }
+    ensures root { forest.new.root ≡ forest.old.root }
+    ensures kept { kept_in forest.new ≡ kept_in forest.old }
+{
+    let node = parent.node;
+    let symbol = symbol_seen(forest.symbol(node));
+    bear_by_place(forest, node, &[symbol], changes);
+}
+
+/// Makes the children of one parent that has none, where they are numbered by their places, from the body in which what
+/// replaces it stands.
+fn bear_body<L: Ledger>(
+    forest: &mut Forest<KeptAnswer<L>>,
+    parent: Parent,
+    body: &SharedBody,
+    changes: &mut Changes,
+)
+    requires sound { IsRooted forest.old.root (changes_in forest.old) (now_of forest.old) }
+    requires lives { IsLive forest.old parent.node }
+    requires bare { HasNoKids forest.old parent.node }
+    requires short { length (kept_successors (now_of forest.old) parent.node) ≤ number_base }
+    requires body { IsBodyFor forest.old parent body.now }
+    requires room { HasRoomFor forest.old changes.old (need_of_one Places forest.old parent) }
+    ensures renewed { Renews Places forest.old forest.new parent changes.old changes.new }
+    ensures rest { rest_of forest.new ≡ rest_of forest.old }
+    ensures root { forest.new.root ≡ forest.old.root }
+    ensures kept { kept_in forest.new ≡ kept_in forest.old }
+{
+    let node = parent.node;
+    match body.constant() {
+        Some(symbols) => bear_by_place(forest, node, symbols.symbols(), changes),
+        None => unreachable!(),
+    }
 }

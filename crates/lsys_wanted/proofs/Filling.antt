@@ -15,12 +15,12 @@ use Rattle.lsys_module.specs.declared.symbol.Symbol.{Symbol}
 use Rattle.lsys_module.specs.declared.symbol.Symbol.TheVariants as code
 use Rattle.lsys_brood.specs.declared.number.Number.{Number}
 use Rattle.lsys_brood.specs.declared.child.Child.{Child}
-use Rattle.lsys_wanted.specs.Counts.{numbered_at, child_of, child_if, IsBehind}
+use Rattle.lsys_wanted.specs.Counts.{numbered_at, child_of, child_if, wanted_from, IsBehind}
 use Rattle.lsys_wanted.specs.Wishes.{AreWanted}
 use Rattle.lsys_wanted.specs.declared.numbers.Numbers.{Numbers}
-use Rattle.lsys_wanted.proofs.Wishing.{wanted_from, cutting_past, are_wanted, open_past, small_at}
+use Rattle.lsys_wanted.proofs.Wishing.{cutting_past, are_wanted, open_past, small_at}
 
-drop_there : (ss : List Symbol) (i : ℕ) (s : Symbol) → slice_get ss i ≡ Some s → drop i ss ≡ s ∷ drop (i + 1) ss
+pub drop_there : (ss : List Symbol) (i : ℕ) (s : Symbol) → slice_get ss i ≡ Some s → drop i ss ≡ s ∷ drop (i + 1) ss
 drop_there ss i s h = rw (drop-cons ss i s (slice_get_within ss i s h)) (ap (λ x. x ∷ drop (suc i) ss) (get_or_from_slice_get ss i s s h) ∙ ap (λ n. s ∷ drop n ss) (sym (add-one i)))
 
 -- the symbols before place i were numbered, and are children where they stay; and what is left to do

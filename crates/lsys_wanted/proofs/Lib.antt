@@ -1,2 +1,3 @@
 pub mod Wishing
 mod Filling
+mod Bearing

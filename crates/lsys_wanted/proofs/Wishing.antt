@@ -20,19 +20,10 @@ use Rattle.lsys_brood.specs.declared.number.Number.{Number}
 use Rattle.lsys_brood.specs.declared.child.Child.{Child}
 use Rattle.lsys_brood.specs.Matches.{AreDifferent, same_child_number, has_number}
 use Rattle.lsys_brood.specs.Children.{numbers_of, AreWhole}
-use Rattle.lsys_wanted.specs.Counts.{numbered_at, child_of, child_if}
+use Rattle.lsys_wanted.specs.Counts.{numbered_at, child_of, child_if, child_at, wanted_from}
 use Rattle.lsys_wanted.specs.Wishes.{child_number, child_symbol, AreWanted}
 
 -- 1. one after another
-
-abbrev pub child_at : Numbering → ℕ → ℕ → List ℕ → Symbol → Child
-child_at g key n before s = child_of key (numbered_at g n before (code_of (symbol_of s))) s
-
--- the children among these symbols, behind n symbols with these codes, where so much is being cut off
-abbrev pub wanted_from : Numbering → ℕ → ℕ → List ℕ → Option ℕ → List Symbol → List Child
-wanted_from g key n before o [] = []
-wanted_from g key n before o (s ∷ ss) =
-    child_if (symbol_stays o (symbol_of s)) (child_at g key n before s) ++ wanted_from g key (n + 1) (code_of (symbol_of s) ∷ before) (cutting_behind o (symbol_of s)) ss
 
 abbrev pub cutting_past : Option ℕ → List Symbol → Option ℕ
 cutting_past o [] = o

@@ -1,13 +1,14 @@
 -- The symbols of a successor, one behind the other: their numbers, and the children that they are.
-use Rattle.std.specs.Prelude.{◌≡◌, ◌+◌, ◌*◌, ◌<◌, ◌==◌, ℕ, Bool, List, [], ◌∷◌, ◌++◌, Option, Vec, length, count_by, nat_eq, cond}
+use Rattle.std.specs.Prelude.{◌≡◌, ◌+◌, ◌*◌, ◌<◌, ◌==◌, ℕ, Bool, List, [], ◌∷◌, ◌++◌, Option, None, Vec, length, count_by, nat_eq, cond}
 use Rattle.std.specs.declared.alloc.Global.{Global}
 use Rattle.std.specs.HashMap.{get}
 use Rattle.std.specs.Map.{count_at}
 use Rattle.lsys_syntax.specs.Commands.{Numbering, by_place, by_name}
 use Rattle.lsys_spec.specs.Draws.{number_base, child_key_of}
+use Rattle.lsys_spec.specs.Numbers.{code_of}
 use Rattle.lsys_reading.specs.declared.parts.Lineage.TheVariants as code
 use Rattle.lsys_reading.specs.Commands.{numbering_of}
-use Rattle.lsys_rewrite.specs.Cutting.{symbol_stays}
+use Rattle.lsys_rewrite.specs.Cutting.{symbol_stays, cutting_behind}
 use Rattle.lsys_module.specs.Views.{symbol_of}
 use Rattle.lsys_module.specs.declared.symbol.Symbol.{Symbol}
 use Rattle.lsys_brood.specs.declared.number.Number.{Number}
@@ -36,6 +37,20 @@ abbrev pub PutsChildIfLeft : Vec Child Global → Vec Child Global → Option �
     → Type 0
 PutsChildIfLeft old new cutting key number s =
     new.items ≡ old.items ++ child_if (symbol_stays cutting (symbol_of s)) (child_of key number s)
+
+-- one of those behind n symbols with these codes
+abbrev pub child_at : Numbering → ℕ → ℕ → List ℕ → Symbol → Child
+child_at g key n before s = child_of key (numbered_at g n before (code_of (symbol_of s))) s
+
+-- the children among these symbols, behind n symbols with these codes, where so much is being cut off
+abbrev pub wanted_from : Numbering → ℕ → ℕ → List ℕ → Option ℕ → List Symbol → List Child
+wanted_from g key n before o [] = []
+wanted_from g key n before o (s ∷ ss) =
+    child_if (symbol_stays o (symbol_of s)) (child_at g key n before s) ++ wanted_from g key (n + 1) (code_of (symbol_of s) ∷ before) (cutting_behind o (symbol_of s)) ss
+
+-- the children among all symbols of a successor, numbered by their places
+abbrev pub staying : ℕ → List Symbol → List Child
+staying key ss = wanted_from by_place key 0 [] None ss
 
 -- n symbols were numbered, with these codes
 pub record IsBehind (n : ℕ) (before : List ℕ) (a : Numbers) : Type 0 where

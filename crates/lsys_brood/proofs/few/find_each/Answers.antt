@@ -1,7 +1,6 @@
-use Rattle.std.proofs.Common.{◌≡◌, ◌+◌, ◌++◌, [], ◌∷◌, ℕ, List, Some, Option, length, slice_get, take, map, refl, sym, ap, ◌∙◌}
+use Rattle.std.proofs.Common.{◌≡◌, ◌++◌, [], ◌∷◌, ℕ, List, Some, Option, length, slice_get, take, map, refl, sym, ap, ◌∙◌}
 use Rattle.std.proofs.lemmas.Option.{slice_get_read}
 use Rattle.lsys_forest.specs.Groves.{now_of}
-use Rattle.lsys_brood.specs.declared.number.Number.{Number}
 use Rattle.lsys_brood.specs.Matches.{node_numbered}
 use Rattle.lsys_brood.specs.Children.{numbers_of}
 use Rattle.lsys_brood.proofs.MatchLemmas.{map_push, take_next, take_whole}

@@ -5,7 +5,7 @@ use Rattle.lsys_brood.proofs.brood.Brood.change.Goals as goal
 
 pub renew_all-requires-clause-matched : goal.renew_all-requires-clause-matched
 renew_all-requires-clause-matched g c = λ n is.
-    let matched = c.self-2.view_is ∙ c.in_ok-find.ensures.matched n is in
+    let matched = c.self.view_is ∙ c.in_ok-find.ensures.matched n is in
     record {
       found = c.deref.ensures.value ∙ ap (λ (x : Matched). x.found) matched;
       left = c.deref-2.ensures.value ∙ ap (λ (x : Matched). x.gone) matched;

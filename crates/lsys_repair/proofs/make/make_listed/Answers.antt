@@ -11,7 +11,7 @@ use Rattle.lsys_wanted.specs.Wishes.{AreWanted}
 use Rattle.lsys_repair.specs.Nexts.{node_key}
 use Rattle.lsys_repair.specs.Parents.{wants}
 use Rattle.lsys_repair.proofs.Needs.{need_there}
-use Rattle.lsys_repair.proofs.make.make_one.Goals as goal
+use Rattle.lsys_repair.proofs.make.make_listed.Goals as goal
 
 pub change-requires-clause-room : goal.change-requires-clause-room
 change-requires-clause-room g c = λ n is.
