@@ -150,6 +150,24 @@ module _ {A : Type 0} (f : Grove A) (reads : Relations) (changes : LevelChanges)
         readers_once = found_once (IsReader reads (turned ++ (beside ++ changes.gone))) c d readers i;
       }
 
+-- where nobody was looked at, has another symbol or is gone, nobody is found
+pub found_none : {A : Type 0} (f : Grove A) (s : List Seat) (reads : Relations) (changes : LevelChanges) (turned beside readers : List ℕ) → changes.looked ≡ [] → changes.changed ≡ [] → changes.gone ≡ []
+    → turned ≡ [] → beside ≡ [] → readers ≡ [] → IsFound f s reads changes turned beside readers
+found_none f s reads changes turned beside readers looked changed gone t b r = record {
+  turned_are = λ k. (λ i. absurd (subst (In k) t i), λ u. absurd (subst (In k) looked u.0.looked_at));
+  beside_are = λ k. (λ i. absurd (subst (In k) b i), λ u. absurd (subst (In u.0.node) changed u.0.among));
+  readers_are = λ k. (λ i. absurd (subst (In k) r i), λ u. absurd (in_none u.0.node u.0.among));
+  turned_once = subst AreApart (sym t) tt;
+  beside_once = subst AreApart (sym b) tt;
+  readers_once = subst AreApart (sym r) tt;
+}
+  where
+    in_none : (k : ℕ) → In k (turned ++ (beside ++ changes.gone)) → ⊥
+    in_none k i = elim (In_append turned (beside ++ changes.gone) k i) [
+      | inl j ↦ subst (In k) t j
+      | inr o ↦ elim (In_append beside changes.gone k o) [ inl j ↦ subst (In k) b j | inr j ↦ subst (In k) gone j ]
+    ]
+
 -- these are marked no more
 pub cleared_of : (Q : ℕ → Type 0) (a b : List Seat) (xs list : List ℕ) → xs ≡ list → ((k : ℕ) → In k xs → is_marked b k ≡ false) → ((k : ℕ) → (In k xs → ⊥) → is_marked b k ≡ is_marked a k)
     → ((k : ℕ) → is_marked a k ≡ true → In k list ⊎ Q k) → (k : ℕ) → is_marked b k ≡ true → Q k

@@ -1,5 +1,5 @@
 //! Who may have another question than before.
-ghost use Rattle.std.specs.Prelude.{◌≡◌, ℕ, OnOk, false, []};
+ghost use Rattle.std.specs.Prelude.{◌≡◌, ℕ, IsTrue, OnOk, false, []};
 ghost use Rattle.lsys_kept.specs.Seats.{is_marked, SameSeats, KeepsSeats};
 ghost use Rattle.lsys_candidates.specs.Found.{AreOnLevels, HasSeatsForFound, FindsIn};
 ghost use Rattle.lsys_candidates.specs.Gatherings.{MarksOnlyFound};
@@ -39,7 +39,8 @@ impl Model for Changes {
 /// those beside such; into `readers` others whose answers read one of all these, or one that is gone. No node is marked
 /// before or behind. [`law_of_found_nodes`] says that these are the candidates.
 ///
-/// It costs steps by the nodes that changed or were looked at, and by the readers of those that are found.
+/// It costs steps by the nodes that changed or were looked at, and by the readers of those that are found; and by those that came,
+/// unless no other node differs.
 ///
 /// # Errors
 ///
@@ -66,6 +67,9 @@ pub fn find_nodes<A: Kept>(
     turned.clear();
     beside.clear();
     readers.clear();
+    if find_none(changes) {
+        return Ok(());
+    }
     let outcome = find_marked(forest, seats, reads, changes, turned, beside, readers);
     seats.clear(&changes.gone);
     seats.clear(&changes.came);
@@ -73,6 +77,15 @@ pub fn find_nodes<A: Kept>(
     seats.clear(beside);
     seats.clear(readers);
     outcome
+}
+
+/// Whether no node can be found: none was looked at, none has another symbol, and none is gone.
+fn find_none(changes: &Changes) -> bool
+    ensures looked { IsTrue result → changes.now.looked ≡ [] }
+    ensures changed { IsTrue result → changes.now.changed ≡ [] }
+    ensures gone { IsTrue result → changes.now.gone ≡ [] }
+{
+    changes.looked.is_empty() && changes.changed.is_empty() && changes.gone.is_empty()
 }
 
 /// Finds them, and leaves marks on them, and on those that came or are gone.

@@ -51,6 +51,7 @@ pub mod Beginnings
 pub mod Askings
 pub mod Unanswered
 pub mod Pendings
+pub mod AskedLevels
 pub mod Births
 pub mod Freshness
 pub mod Marked

@@ -14,7 +14,7 @@ use Rattle.lsys_kept.specs.Seats.{HasSeat, SameSeats, KeepsSeats}
 use Rattle.lsys_kept.proofs.LevelLemmas.{place_in}
 use Rattle.lsys_candidates.specs.Repairs.{Repair, are}
 use Rattle.lsys_candidates.specs.Candidates.{AsksOn, AsksNow, IsCandidateNode}
-use Rattle.lsys_candidates.specs.Asks.{AreInOrder}
+use Rattle.lsys_candidates.specs.Asks.{AreInOrder, AreSome}
 use Rattle.lsys_candidates.proofs.Nodes.{candidates_are}
 use Rattle.lsys_front.specs.Fronts.{Differences}
 use Rattle.lsys_front.specs.Losses.{LosesOnly}
@@ -116,7 +116,11 @@ module _ (v : PassView) (t : ℕ) (h : IsPass v) (beside readers : List ℕ) (f 
           | inr j ↦ ((l.loses.are k).0 j).1.unasked (asks_back v t h beside readers f others o g bare dropped l k u.0)
         ]
 
-    module _ (once : AreApart pending) (order : AreInOrder g pending) (seats : List Seat) (same : SameSeats v.seats seats) (keeps : KeepsSeats v.seats seats) where
+    -- in order they are some of the level
+    in_row : AreInOrder g pending → AreSome pending (are r')
+    in_row order = pending_some g t pending (sound_after v t h beside readers f others o g bare dropped l) order (λ k i. ((pending_now k).0 i).0)
+
+    module _ (once : AreApart pending) (some : AreSome pending (are r')) (seats : List Seat) (same : SameSeats v.seats seats) (keeps : KeepsSeats v.seats seats) where
       ask : AreToAsk (stage v t h beside readers f others o g bare dropped l seats same keeps pending) t
       ask = record {
         each = λ p k e. elim (each p k e) [
@@ -124,7 +128,7 @@ module _ (v : PassView) (t : ℕ) (h : IsPass v) (beside readers : List ℕ) (f 
           | inr u ↦ inr (u.done, u.answered, u.unneeded)
         ];
         all = λ p k e x. (pending_now k).1 (get_In (are r') p k e, (candidates_are r' (spots_now v t h beside readers f others o g bare dropped l) p k e).0 x);
-        in_order = pending_some g t pending (sound_after v t h beside readers f others o g bare dropped l) order (λ k i. ((pending_now k).0 i).0);
+        in_order = some;
         apart = once;
         faults = f.made.faults;
         undropped = undropped;
@@ -219,7 +223,7 @@ module _ (v w : PassView) (t : ℕ) (h : IsPass v) (beside readers others : List
       asked_at asked filled are once order below small =
           subst (λ (ps : List ℕ). IsReadyToAsk (after v g d dropped seats ps) t) (sym filled)
           (subst (λ (y : Differences). IsReadyToAsk (after v g y dropped seats asked) t) (sym but_bare)
-          (is_to_ask v t h beside readers f others o g d.bare dropped l asked these_are once order seats same keeps (subst (λ (z : PassView). t < z.next.depth) (sym x.is) below) small))
+          (is_to_ask v t h beside readers f others o g d.bare dropped l asked these_are once (in_row v t h beside readers f others o g d.bare dropped l asked these_are order) seats same keeps (subst (λ (z : PassView). t < z.next.depth) (sym x.is) below) small))
         where
           these_are : (k : ℕ) → In k asked ↔ (AsksOn v.next t (now_of g) k × MayBeAsked v.front beside readers others k)
           these_are k = (

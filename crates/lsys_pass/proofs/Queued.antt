@@ -1,5 +1,7 @@
 -- What a queue has left, by halves.
-use Rattle.std.proofs.Common.{◌≡◌, ◌≢◌, ◌<◌, ◌≤◌, ◌+◌, ◌-◌, ◌/◌, ℕ, zero, suc, Bool, true, false, List, [], ◌∷◌, ◌++◌, length, take, drop, map, Option, Some, None, slice_get, slice_index_or, get_or, refl, sym, ap, ◌∙◌, subst, arith, drop-cons, slice_set, append_assoc, length-append, length-drop}
+use Rattle.std.proofs.Common.{◌≡◌, ◌≢◌, ◌<◌, ◌≤◌, ◌+◌, ◌-◌, ◌/◌, ℕ, zero, suc, Bool, true, false, List, [], ◌∷◌, ◌++◌, length, take, drop, map, Option, Some, None, slice_get, slice_index_or, refl, sym, ap, ◌∙◌, subst, arith, drop-cons, slice_set, append_assoc, length-append, length-drop}
+use Rattle.std.specs.Prelude.{Vec}
+use Rattle.std.specs.declared.alloc.Global.{Global}
 use Rattle.std.specs.List.{remove, cons_option}
 use Rattle.std.proofs.Math.Seq.{drop-append-add}
 use Rattle.std.proofs.lemmas.List.{take-append-drop, take_all, take_at, drop_all, append-nil, take-set, drop-set, take_more, take-map, drop-map, length-map, length-take-le}
@@ -8,7 +10,7 @@ use Rattle.std.proofs.lemmas.List.Edits.{remove-append_left, remove-append_right
 use Rattle.std.proofs.lemmas.List.Elements.{filter_map-append}
 use Rattle.std.proofs.lemmas.Option.{none-some, same_Some, slice_get_read, slice_get-get_or, slice_get_within}
 use Rattle.lsys_pass.specs.declared.queue.Slot.{Slot}
-use Rattle.lsys_pass.specs.Queues.{those_left, fresh_slot, AreCounted, InHalves, IsQueue}
+use Rattle.lsys_pass.specs.Queues.{those_left, fresh_slot, AreCounted, InHalves, those_in, HasRoomForSlots, IsQueue}
 
 -- 1. lists
 
@@ -256,7 +258,7 @@ taken_behind_none part s place fresh h is node above size counted left =
     ∙ ap (λ (i : ℕ). before ++ remove rest i) (sym next) ∙ sym (remove-append_right before rest (length before) place refl (omega (arith, count, above)))
     ∙ ap (λ (xs : List ℕ). remove xs place) (sym (left_where part s None h node)))
 
--- 5. a queue that is filled
+-- 5. slots of nodes, of which none is gone
 
 those_fresh : (nodes : List ℕ) → those_left (map fresh_slot nodes) ≡ nodes
 those_fresh [] = refl
@@ -285,28 +287,22 @@ fresh_counted (suc n) nodes h =
     (λ some. let fits = length-take-le (length part / 2) nodes (omega (arith, size, some)) in subst AreCounted (sym first) (fresh_counted n (take (length part / 2) nodes) (omega (arith, h, some, size, fits))))
     (λ some. let fits = length-drop (length part / 2 + 1) nodes in subst AreCounted (sym rest) (fresh_counted n (drop (length part / 2 + 1) nodes) (omega (arith, h, some, size, fits))))
 
-zero_more : (i : ℕ) → 0 + i ≡ i
-zero_more i = omega arith
-
-fresh_slot_is : (nodes : List ℕ) (i : ℕ) (s : Slot) → slice_get (map fresh_slot nodes) i ≡ Some s → slice_get nodes i ≡ s.node
-fresh_slot_is [] i s h = absurd (none-some s h)
-fresh_slot_is (k ∷ nodes) zero s h = ap (λ (x : Slot). x.node) (same_Some _ _ h)
-fresh_slot_is (k ∷ nodes) (suc i) s h = fresh_slot_is nodes i s h
-
 pub filled_left : (slots : List Slot) (nodes : List ℕ) → slots ≡ map fresh_slot nodes → those_left slots ≡ nodes
 filled_left slots nodes is = ap those_left is ∙ those_fresh nodes
 
-pub filled : (slots : List Slot) (nodes : List ℕ) → slots ≡ map fresh_slot nodes → IsQueue slots 0 (length nodes) true
-filled slots nodes is =
-    let left = filled_left slots nodes is in
-    record {
-      counted = subst AreCounted (sym is) (fresh_counted (suc (length nodes)) nodes (omega arith));
-      size = ap length (sym left);
-      within = omega arith;
-      fresh = λ _. is ∙ ap (map fresh_slot) (sym left);
-    }
+pub filled_counted : (slots : List Slot) (nodes : List ℕ) → slots ≡ map fresh_slot nodes → AreCounted slots
+filled_counted slots nodes is = subst AreCounted (sym is) (fresh_counted (suc (length nodes)) nodes (omega arith))
 
--- 6. the first ones
+-- one more of them
+pub one_more : (nodes : List ℕ) (i k : ℕ) (old new : List Slot) → slice_get nodes i ≡ Some k → old ≡ map fresh_slot (take i nodes) → new ≡ old ++ fresh_slot k ∷ [] → new ≡ map fresh_slot (take (i + 1) nodes)
+one_more nodes i k old new here was is = is ∙ ap (λ (xs : List Slot). xs ++ fresh_slot k ∷ []) was ∙ next nodes i k here ∙ ap (λ n. map fresh_slot (take n nodes)) (let e : suc i ≡ i + 1 = omega arith in e)
+  where
+    next : (nodes : List ℕ) (i k : ℕ) → slice_get nodes i ≡ Some k → map fresh_slot (take i nodes) ++ fresh_slot k ∷ [] ≡ map fresh_slot (take (suc i) nodes)
+    next [] i k h = absurd (none-some k h)
+    next (x ∷ nodes) zero k h = ap (λ (n : ℕ). fresh_slot n ∷ []) (sym (same_Some x k h))
+    next (x ∷ nodes) (suc i) k h = ap (λ (xs : List Slot). fresh_slot x ∷ xs) (next nodes i k h)
+
+-- 6. a queue
 
 no_more : (o : Option ℕ) (xs : List ℕ) → length (cons_option o xs) ≤ suc (length xs)
 no_more None xs = omega arith
@@ -320,8 +316,14 @@ few_left (s ∷ slots) =
     let same = ap (length {A = ℕ}) (those_around [] s slots) in
     omega (arith, less, one, same)
 
+pub filled : (nodes : List ℕ) (slots : Vec Slot Global) → HasRoomForSlots slots nodes → IsQueue nodes slots 0 (length nodes) true
+filled nodes slots room = record { counted = λ w. cc; size = refl; within = omega arith; room = λ _. room }
+
 more : (n i : ℕ) → suc (n + i) ≡ suc n + i
 more n i = omega arith
+
+zero_more : (i : ℕ) → 0 + i ≡ i
+zero_more i = omega arith
 
 get_drop : (n : ℕ) (xs : List ℕ) (i : ℕ) → slice_get (drop n xs) i ≡ slice_get xs (n + i)
 get_drop zero xs i = ap (slice_get xs) (sym (zero_more i))
@@ -342,45 +344,51 @@ drop_next zero xs = refl
 drop_next (suc n) [] = refl
 drop_next (suc n) (x ∷ xs) = drop_next n xs
 
-module _ (slots : List Slot) (start end : ℕ) (whole : Bool) (q : IsQueue slots start end whole) where
-  pub in_it : length (drop start (those_left slots)) ≡ end - start
-  in_it = let l = length-drop start (those_left slots) in omega (arith, q.size, l)
+module _ (nodes : List ℕ) (slots : Vec Slot Global) (start end : ℕ) (whole : Bool) (q : IsQueue nodes slots start end whole) where
+  -- those that are left
+  abbrev pub left : List ℕ
+  left = those_in whole nodes slots.items
 
-  pub within_end : (place : ℕ) → place < length (drop start (those_left slots)) → start + place < end
+  pub in_it : length (drop start left) ≡ end - start
+  in_it = let l = length-drop start left in omega (arith, q.size, l)
+
+  pub within_end : (place : ℕ) → place < length (drop start left) → start + place < end
   within_end place l = omega (arith, q.within, in_it, l)
 
-  pub within_slots : (place : ℕ) → place < length (drop start (those_left slots)) → start + place < length slots
-  within_slots place l = let few = few_left slots in let at = within_end place l in omega (arith, at, few, q.size)
+  pub within_left : (place : ℕ) → place < length (drop start left) → start + place < length left
+  within_left place l = let at = within_end place l in omega (arith, at, q.size)
 
-  pub nth_is : (place k : ℕ) → slice_get (those_left slots) (start + place) ≡ Some k → slice_get (drop start (those_left slots)) place ≡ Some k
-  nth_is place k h = get_drop start (those_left slots) place ∙ h
+  nth_is : (place k : ℕ) → slice_get left (start + place) ≡ Some k → slice_get (drop start left) place ≡ Some k
+  nth_is place k h = get_drop start left place ∙ h
 
-  -- each slot has its node
-  pub slot_read : whole ≡ true → (place : ℕ) → place < length (drop start (those_left slots)) → (found : List Slot) → found ≡ slots → (d : Slot) (o : Option ℕ) → (get_or found (start + place) d).node ≡ o → slice_get (drop start (those_left slots)) place ≡ o
-  slot_read w place l found same d o h =
-      let at = start + place in
-      let here : slice_get slots at ≡ Some (get_or slots at d) = slice_get-get_or slots at d (within_slots place l) in
-      get_drop start (those_left slots) place
-      ∙ fresh_slot_is (those_left slots) at (get_or slots at d) (ap (λ (x : List Slot). slice_get x at) (sym (q.fresh w)) ∙ here)
-      ∙ ap (λ (x : List Slot). (get_or x at d).node) (sym same)
-      ∙ h
+  pub within_nodes : whole ≡ true → (place : ℕ) → place < length (drop start left) → start + place < length nodes
+  within_nodes w place l = subst (λ (b : Bool). start + place < length (those_in b nodes slots.items)) w (within_left place l)
 
-  pub node_there : (place : ℕ) → place < length (drop start (those_left slots)) → slice_get (drop start (those_left slots)) place ≡ None → ⊥
-  node_there place l none = none-some (get_or (drop start (those_left slots)) place 0) (sym none ∙ slice_get-get_or (drop start (those_left slots)) place 0 l)
+  pub left_in_slots : whole ≡ false → left ≡ those_left slots.items
+  left_in_slots w = ap (λ (b : Bool). those_in b nodes slots.items) w
 
-  pub first_off : 0 < length (drop start (those_left slots)) → IsQueue slots (start + 1) end whole
-  first_off l = record { counted = q.counted; size = q.size; within = omega (arith, in_it, l); fresh = q.fresh }
+  pub within_slots : whole ≡ false → (place : ℕ) → place < length (drop start left) → start + place < length slots.items
+  within_slots w place l = let few = few_left slots.items in let at = within_left place l in let same = ap (length {A = ℕ}) (left_in_slots w) in omega (arith, at, few, same)
 
-  pub first_gone : drop (start + 1) (those_left slots) ≡ remove (drop start (those_left slots)) 0
-  first_gone = ap (λ n. drop n (those_left slots)) (let e : start + 1 ≡ suc start = omega arith in e) ∙ drop_next start (those_left slots)
+  pub node_is : whole ≡ true → (place k : ℕ) → slice_get nodes (start + place) ≡ Some k → slice_get (drop start left) place ≡ Some k
+  node_is w place k h = nth_is place k (ap (λ (b : Bool). slice_get (those_in b nodes slots.items) (start + place)) w ∙ h)
 
-  module _ (new : List Slot) (place : ℕ) (within : place < length (drop start (those_left slots))) (counted : AreCounted new) (taken : those_left new ≡ remove (those_left slots) (start + place)) where
-    pub any_off : IsQueue new start (end - 1) false
+  pub slot_is : whole ≡ false → (place k : ℕ) → slice_get (those_left slots.items) (start + place) ≡ Some k → slice_get (drop start left) place ≡ Some k
+  slot_is w place k h = nth_is place k (ap (λ (xs : List ℕ). slice_get xs (start + place)) (left_in_slots w) ∙ h)
+
+  pub first_off : 0 < length (drop start left) → IsQueue nodes slots (start + 1) end whole
+  first_off l = record { counted = q.counted; size = q.size; within = omega (arith, in_it, l); room = q.room }
+
+  pub first_gone : drop (start + 1) left ≡ remove (drop start left) 0
+  first_gone = ap (λ n. drop n left) (let e : start + 1 ≡ suc start = omega arith in e) ∙ drop_next start left
+
+  module _ (new : Vec Slot Global) (place : ℕ) (within : place < length (drop start left)) (counted : AreCounted new.items) (taken : those_left new.items ≡ remove left (start + place)) where
+    pub any_off : IsQueue nodes new start (end - 1) false
     any_off =
         let at = within_end place within in
-        let less = length-remove (those_left slots) (start + place) (omega (arith, at, q.size)) in
+        let less = length-remove left (start + place) (omega (arith, at, q.size)) in
         let same = ap (length {A = ℕ}) taken in
-        record { counted = counted; size = omega (arith, q.size, less, same); within = omega (arith, at); fresh = λ w. cc }
+        record { counted = λ _. counted; size = omega (arith, q.size, less, same); within = omega (arith, at); room = λ w. cc }
 
-    pub any_gone : drop start (those_left new) ≡ remove (drop start (those_left slots)) place
-    any_gone = ap (drop start) taken ∙ drop_remove start (those_left slots) place
+    pub any_gone : drop start (those_left new.items) ≡ remove (drop start left) place
+    any_gone = ap (drop start) taken ∙ drop_remove start left place

@@ -10,6 +10,7 @@ pub mod Moves
 pub mod Leftmost
 pub mod Fresh
 pub mod Others
+pub mod AskedLevels
 pub mod Sizes
 pub mod Views
 pub mod Spent

@@ -1,5 +1,6 @@
 -- Nodes that are still to be asked, and how many are gone.
-use Rattle.std.specs.Prelude.{◌≡◌, ◌<◌, ◌≤◌, ◌+◌, ◌/◌, ℕ, Bool, true, List, Some, length, map, take, drop, slice_get}
+use Rattle.std.specs.Prelude.{◌≡◌, ◌<◌, ◌≤◌, ◌+◌, ◌/◌, ℕ, Bool, true, false, List, [], Some, Vec, vec_capacity, length, map, take, drop, slice_get}
+use Rattle.std.specs.declared.alloc.Global.{Global}
 use Rattle.std.specs.List.{filter_map}
 use Rattle.lsys_pass.specs.declared.queue.Slot.{Slot}
 
@@ -24,10 +25,20 @@ pub data AreCounted : List Slot → Type 0 where
       → (0 < length part → AreCounted (drop (length part / 2 + 1) part))
       → AreCounted part
 
--- The slots of a queue, which has of those that are left in them the ones from a place on; and how many these are. And whether each
--- slot has its node.
-pub record IsQueue (slots : List Slot) (start end : ℕ) (whole : Bool) : Type 0 where
-  pub counted : AreCounted slots
-  pub size : end ≡ length (those_left slots)
+-- those that are left: all, as long as they have no slots
+abbrev pub those_in : Bool → List ℕ → List Slot → List ℕ
+those_in true nodes slots = nodes
+those_in false nodes slots = those_left slots
+
+-- there are no slots yet, and room for those of these nodes
+pub record HasRoomForSlots (slots : Vec Slot Global) (nodes : List ℕ) : Type 0 where
+  pub none : slots.items ≡ []
+  pub room : length nodes ≤ vec_capacity slots
+
+-- The nodes of a queue, or their slots, which has of those that are left the ones from a place on; and how many these are. And whether
+-- the nodes have no slots.
+pub record IsQueue (nodes : List ℕ) (slots : Vec Slot Global) (start end : ℕ) (whole : Bool) : Type 0 where
+  pub counted : whole ≡ false → AreCounted slots.items
+  pub size : end ≡ length (those_in whole nodes slots.items)
   pub within : start ≤ end
-  pub fresh : whole ≡ true → slots ≡ map fresh_slot (those_left slots)
+  pub room : whole ≡ true → HasRoomForSlots slots nodes

@@ -40,7 +40,7 @@ impl<L: Ledger> Pass<L> {
     ///
     /// It costs steps by the parents and their children, by the nodes that came to this level, are gone from it or turned, and
     /// by how far it is to the next children beside them; and by the rules of the next level. Where that level is a busy one it
-    /// costs a step for each node of the levels so far that is not linked, and no step is far then.
+    /// costs a step for each node of the levels so far that are not linked, and no step is far then.
     ///
     /// # Errors
     ///
@@ -69,16 +69,6 @@ impl<L: Ledger> Pass<L> {
     {
         let system = target(&self.next, &self.system);
         let next = level.saturating_add(1);
-        let many = many_above(parents, &self.work.front);
-        let busy = is_busy(
-            alloc,
-            &self.system,
-            system,
-            &self.sizes,
-            next,
-            many,
-            symbols,
-        )?;
         let told = make_below(
             alloc,
             &mut self.forest,
@@ -88,7 +78,11 @@ impl<L: Ledger> Pass<L> {
             &mut self.wanted,
             &mut self.brood,
         )?;
-        link_busy(&mut self.forest, next, busy);
+        let climbs = climbs_below(parents, &self.work.front, &told, next);
+        let unlinked = unlinked_symbols(&self.forest, &self.sizes, symbols);
+        let pays = climbs >= unlinked;
+        let is_busy = is_busy(alloc, &self.system, system, next, symbols, pays)?;
+        link_busy(&mut self.forest, next, is_busy);
         let was_there = is_asked(level, self.system.depth());
         let front = next_front(alloc, &self.forest, &self.work.front, &told, was_there)?;
         come_below(
@@ -180,11 +174,9 @@ fn come_below<A: Kept>(
     Ok(())
 }
 
-/// Whether so many nodes of a level are looked at that it pays to link it. A level is walked along where it is asked and was not,
-/// or was asked and is not, or has other rules than at the last rest. And each of so many nodes of the level above, which have
-/// other children or other neighbours, may lead to climbs that take as many steps as there are levels, there and back. It costs
-/// steps by the number of levels, and of rules, which aren't compared for a level that is shorter: each of its nodes may climb then. The
-/// choice is free: whichever it is, the forest tells the same.
+/// Whether a level of so many symbols is linked: where it is known that it pays, since that takes no more steps than climbs do; and where the
+/// level is walked along, since it is asked and was not, or was asked and is not, or has other rules than at the last rest. It costs steps by
+/// the number of rules, which aren't compared for a level that is shorter. The choice is free: whichever it is, the forest tells the same.
 ///
 /// # Errors
 ///
@@ -193,21 +185,16 @@ fn is_busy(
     alloc: Global,
     old: &System,
     new: &System,
-    sizes: &Sizes,
     level: u32,
-    many: usize,
     symbols: usize,
+    pays: bool,
 ) -> Result<bool, AllocError> {
     let is_asked_now = is_asked(level, new.depth());
-    let climbs = many.saturating_mul(2).saturating_mul(level as usize);
-    if is_asked_now != is_asked(level, old.depth()) || climbs >= total_with(sizes, symbols) {
+    if pays || is_asked_now != is_asked(level, old.depth()) {
         return Ok(true);
     }
-    if !is_asked_now {
+    if !is_asked_now || symbols < new.rules().len() {
         return Ok(false);
-    }
-    if symbols < new.rules().len() {
-        return Ok(symbols.saturating_mul(level as usize) >= total_with(sizes, symbols));
     }
     Ok(!have_same_rules(alloc, old, new, level)?)
 }
@@ -227,22 +214,32 @@ fn have_same_rules(
     rules.are_all_alike()
 }
 
-/// How many nodes of a level have other children, or turned, for that choice: these parents, and those that its front tells.
-fn many_above(parents: &[Parent], front: &Front) -> usize {
-    parents.len().saturating_add(front.turned.len())
+/// How many steps it takes at most to find who stands beside the nodes of a level that were told to be new, and beside the children of those
+/// of the level above that have other children or turned: where no level is linked such a node may lead to a climb there and back.
+fn climbs_below(parents: &[Parent], front: &Front, told: &Changes, level: u32) -> usize {
+    let turned = parents.len().saturating_add(front.turned.len());
+    let far = turned.saturating_mul(2).saturating_mul(level as usize);
+    told.added()
+        .len()
+        .saturating_mul(STEPS_A_NODE)
+        .saturating_add(far)
 }
 
-/// How many symbols the levels have that were made, and a next one of so many, for that choice.
-fn total_with(sizes: &Sizes, symbols: usize) -> usize {
-    let mut total = symbols;
-    for size in &sizes.made {
-        total = total.saturating_add(size.symbols);
+/// In how many steps along links, about, the neighbours of a new node are found among the children of its parent and of those beside it.
+const STEPS_A_NODE: usize = 8;
+
+/// How many symbols the levels have that are not linked, of those that were made and a next one of so many: so many steps it takes to
+/// link them.
+fn unlinked_symbols<A: Kept>(forest: &Forest<A>, sizes: &Sizes, symbols: usize) -> usize {
+    let mut unlinked = symbols;
+    for size in sizes.made.iter().skip(forest.linked() as usize) {
+        unlinked = unlinked.saturating_add(size.symbols);
     }
-    total
+    unlinked
 }
 
-/// Links the nodes of the levels up to this one to their neighbours, where it is a busy one: who stands beside a node is one
-/// look then. It takes no memory.
+/// Links the nodes of the levels up to this one to their neighbours, where it is a busy one, so that it pays: who stands beside a node
+/// is one look then. It takes no memory.
 fn link_busy<A: Kept>(forest: &mut Forest<A>, level: u32, busy: bool)
     ensures { KeepsNodes forest.old forest.new }
 {

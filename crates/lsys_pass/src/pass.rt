@@ -183,7 +183,8 @@ impl<L: Ledger> Pass<L> {
 
     /// Asks a node that is pending: its answer is kept, or its fault is noted. Then it is pending no more. Nodes may be asked in
     /// any order: one costs what is read for it, and to be found among those that are pending, where as many nodes as a logarithm
-    /// are looked up and compared; to take it off costs a logarithm, wherever it stands.
+    /// are looked up and compared; to take it off costs a logarithm, wherever it stands, and for the first one of a level that isn't
+    /// the first pending one a step for each node that the level had pending.
     ///
     /// # Errors
     ///

@@ -1,9 +1,9 @@
 //! Nodes that are still to be asked.
-ghost use Rattle.std.specs.Prelude.{◌≡◌, ◌<◌, ℕ, List, [], Some, IfOk, OnOk, OnErr, length, map, slice_get};
+ghost use Rattle.std.specs.Prelude.{◌≡◌, ◌<◌, ◌≤◌, ◌++◌, ◌∷◌, ℕ, List, [], true, false, Some, OnOk, OnErr, length, map, slice_get, vec_len, vec_capacity};
 ghost use Rattle.std.specs.List.{remove};
 ghost use Rattle.lsys_spec.specs.Rows.{In};
 ghost use Rattle.lsys_pass.specs.Places.{AreInOrderOnLevel};
-ghost use Rattle.lsys_pass.specs.Queues.{AreCounted, those_left, fresh_slot};
+ghost use Rattle.lsys_pass.specs.Queues.{AreCounted, those_left, fresh_slot, those_in, HasRoomForSlots};
 
 use lsys_forest::{Forest, Kept, NodeId};
 use std::alloc::{AllocError, Global};
@@ -17,16 +17,20 @@ struct Slot {
     gone: usize,
 }
 
-/// Nodes in order, from which the first is taken off at the cost of a step, and any at that of a logarithm: each slot is in the
-/// middle of a part, and those before it and those behind it are parts again.
+/// Nodes in order, from which the first is taken off at the cost of a step, and any at that of a logarithm. Before one is taken off
+/// that isn't the first, each gets a slot, at the cost of a step: each slot is in the middle of a part, and those before it and those
+/// behind it are parts again.
 #[derive(Drop)]
 pub(crate) struct Queue {
+    /// The nodes, as long as they have no slots.
+    nodes: Vec<NodeId>,
+    /// Their slots; as long as there are none, there is room for them.
     slots: Vec<Slot>,
-    /// Of those that the slots have left, the queue has those from this place on.
+    /// Of those that are left, the queue has those from this place on.
     start: usize,
-    /// How many the slots have left.
+    /// How many are left.
     end: usize,
-    /// Each slot has its node.
+    /// The nodes have no slots.
     whole: bool,
 }
 
@@ -38,11 +42,11 @@ impl Model for Queue {
 
     ghost coded = { coded_list coded_ℕ };
 
-    ghost use Rattle.lsys_pass.specs.Queues.{IsQueue, those_left};
+    ghost use Rattle.lsys_pass.specs.Queues.{IsQueue, those_in};
 
-    ghost view = { λ q. drop q.start (those_left q.slots.items) };
+    ghost view = { λ q. drop q.start (those_in q.whole q.nodes.items q.slots.items) };
 
-    ghost invariant = { λ q. IsQueue q.slots.items q.start q.end q.whole };
+    ghost invariant = { λ q. IsQueue q.nodes.items q.slots q.start q.end q.whole };
 }
 
 impl Queue {
@@ -51,6 +55,7 @@ impl Queue {
         ensures { result ≡ [] }
     {
         Queue {
+            nodes: Vec::new(alloc),
             slots: Vec::new(alloc),
             start: 0,
             end: 0,
@@ -58,19 +63,22 @@ impl Queue {
         }
     }
 
-    /// These nodes take the place of the others. It costs a step for each.
+    /// These nodes take the place of the others.
     ///
     /// # Errors
     ///
     /// Want of memory. The others stay.
-    pub(crate) fn set(&mut self, nodes: &[NodeId]) -> Result<(), AllocError>
-        ensures ok { OnOk result (self.new ≡ nodes.now) }
+    pub(crate) fn set(&mut self, nodes: Vec<NodeId>) -> Result<(), AllocError>
+        ensures ok { OnOk result (self.new ≡ nodes.items) }
         ensures err { OnErr result (self.new ≡ self.old) }
     {
-        self.slots = slots_of(*self.slots.allocator(), nodes)?;
+        let mut slots = Vec::new(*self.slots.allocator());
+        slots.reserve(nodes.len())?;
         self.start = 0;
         self.end = nodes.len();
         self.whole = true;
+        self.nodes = nodes;
+        self.slots = slots;
         Ok(())
     }
 
@@ -78,6 +86,7 @@ impl Queue {
     pub(crate) fn clear(&mut self)
         ensures { self.new ≡ [] }
     {
+        self.nodes.clear();
         self.slots.clear();
         self.start = 0;
         self.end = 0;
@@ -96,15 +105,12 @@ impl Queue {
         requires { place < length self.now }
         ensures { slice_get self.now place ≡ Some result }
     {
+        if self.whole {
+            let nodes: &[NodeId] = &self.nodes;
+            return nodes[self.start + place];
+        }
         let slots: &[Slot] = &self.slots;
-        let at = self.start + place;
-        if !self.whole {
-            return nth_among(slots, at);
-        }
-        match slots[at].node {
-            Some(node) => node,
-            None => unreachable!(),
-        }
+        nth_among(slots, self.start + place)
     }
 
     /// At which place a node stands, where the nodes are in order on one complete level. The first one is looked at first; else
@@ -130,7 +136,8 @@ impl Queue {
         first
     }
 
-    /// Takes the node at a place off. It costs a step for the first one, and else a logarithm. It takes no memory.
+    /// Takes the node at a place off. It costs a step for the first one, and else a logarithm; and a step for each node, where none but
+    /// first ones were taken off before. It takes no memory.
     pub(crate) fn take(&mut self, place: usize)
         requires { place < length self.old }
         ensures { self.new ≡ remove self.old place }
@@ -139,23 +146,50 @@ impl Queue {
             self.start += 1;
             return;
         }
+        give_slots(&mut self.whole, &self.nodes, &mut self.slots);
         take_among(&mut self.slots, self.start + place);
         self.end -= 1;
-        self.whole = false;
     }
 }
 
-/// Slots of these nodes, of which none is gone.
-fn slots_of(alloc: Global, nodes: &[NodeId]) -> Result<Vec<Slot>, AllocError>
-    ensures { IfOk result (λ slots. slots.items ≡ map fresh_slot nodes.now) }
+/// Gives nodes their slots, if they have none. It takes no memory.
+fn give_slots(whole: &mut bool, nodes: &[NodeId], slots: &mut Vec<Slot>)
+    requires room { whole.old ≡ true → HasRoomForSlots slots.old nodes.now }
+    requires counted { whole.old ≡ false → AreCounted slots.old.items }
+    ensures whole { whole.new ≡ false }
+    ensures counted { AreCounted slots.new.items }
+    ensures left { those_left slots.new.items ≡ those_in whole.old nodes.now slots.old.items }
 {
-    nodes
-        .iter()
-        .map(|node| Slot {
-            node: Some(*node),
-            gone: 0,
-        })
-        .collect(alloc)
+    if *whole {
+        add_slots(nodes, slots);
+        *whole = false;
+    }
+}
+
+/// Adds slots of these nodes, of which none is gone, to none. It takes no memory.
+fn add_slots(nodes: &[NodeId], slots: &mut Vec<Slot>)
+    requires room { HasRoomForSlots slots.old nodes.now }
+    ensures { slots.new.items ≡ map fresh_slot nodes.now }
+{
+    for node in nodes {
+        add_slot(*node, slots);
+    }
+}
+
+/// Adds the slot of a node. It takes no memory.
+fn add_slot(node: NodeId, slots: &mut Vec<Slot>)
+    requires { vec_len slots.old < vec_capacity slots.old }
+    ensures added { slots.new.items ≡ slots.old.items ++ fresh_slot node ∷ [] }
+    ensures capacity { vec_capacity slots.old ≤ vec_capacity slots.new }
+{
+    let slot = Slot {
+        node: Some(node),
+        gone: 0,
+    };
+    match slots.push(slot) {
+        Ok(()) => {}
+        Err(_) => unreachable!(),
+    }
 }
 
 /// The node at a place among those that a part has left.

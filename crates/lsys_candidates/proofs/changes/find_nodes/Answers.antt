@@ -2,7 +2,7 @@ use Rattle.std.proofs.Common.{arith, ◌⊎◌, ap, ◌∙◌}
 use Rattle.std.proofs.lemmas.Grind.{elements}
 use Rattle.lsys_spec.specs.Rows.{In}
 use Rattle.lsys_candidates.specs.Found.{LevelChanges}
-use Rattle.lsys_candidates.proofs.Marking.{cleared_of, none_marked, in_turn}
+use Rattle.lsys_candidates.proofs.Marking.{cleared_of, found_none, none_marked, in_turn}
 use Rattle.lsys_candidates.proofs.changes.find_nodes.Goals as goal
 
 pub returns-clause-clear : goal.returns-clause-clear
@@ -27,3 +27,8 @@ returns-clause-clear g c =
 
 pub returns-clause-seats : goal.returns-clause-seats
 returns-clause-seats g c = grind (arith, elements)
+
+pub returns-then-find_none-clause-found : goal.returns-then-find_none-clause-found
+returns-then-find_none-clause-found g c =
+    found_none c.args.forest.now c.args.seats.now c.args.reads.now c.args.changes.now c.clear.new.self.items c.clear-2.new.self.items c.clear-3.new.self.items (c.find_none.ensures.looked c.if-find_none.true)
+    (c.find_none.ensures.changed c.if-find_none.true) (c.find_none.ensures.gone c.if-find_none.true) c.clear.ensures.items c.clear-2.ensures.items c.clear-3.ensures.items

@@ -10,6 +10,9 @@ make_below-requires-clause-need g c = need_at _ _ c.args.level c.self.view_is c.
 pub invariant_of-self : goal.invariant_of-self
 invariant_of-self g c = made_failed _ _ _ _ _ _ c.self.invariant (ap (λ (z : PassView). z.state) c.self.view_is ∙ c.requires.failed) c.make_below.ensures.keeps (λ k. refl) (λ k. refl) (λ k i. i) refl
 
+pub invariant_of-self-in_err-is_busy : goal.invariant_of-self-in_err-is_busy
+invariant_of-self-in_err-is_busy g c = made_failed _ _ _ _ _ _ c.self.invariant (ap (λ (z : PassView). z.state) c.self.view_is ∙ c.requires.failed) c.make_below.ensures.keeps (λ k. refl) (λ k. refl) (λ k i. i) refl
+
 pub next_front-requires-clause-lives : goal.next_front-requires-clause-lives
 next_front-requires-clause-lives g c =
     lives_at _ _ c.args.level c.self.view_is c.requires.asked c.args.parents.now c.requires.found _ c.target-system.ensures _ _ (linked_keeps _ _ _ c.link_busy.ensures c.make_below.ensures.keeps) (linked_made _ _ _ c.link_busy.ensures _ _ _ c.in_ok-told.ensures.made)
