@@ -182,7 +182,7 @@ spelled_tokens false (Err n) c e = cc
 pub asked_tokens : (limit : ℕ) (s : System) (line : List ℕ) (r : Request) → IsAskedBy s (bare_spelled line) r → MayLack limit s r → IsOk (tokens line)
 asked_tokens limit s line Nothing h m = absurd m
 asked_tokens limit s line (Edit next) h m = spelled_tokens (is_passed_over line) (tokens line) h.0 h.1
-asked_tokens limit s line (String t) h m = spelled_tokens (is_passed_over line) (tokens line) h.0 h.1
+asked_tokens limit s line (String t) h m = absurd m
 asked_tokens limit s line Segments h m = spelled_tokens (is_passed_over line) (tokens line) h.0 h.1
 asked_tokens limit s line Svg h m = spelled_tokens (is_passed_over line) (tokens line) h.0 h.1
 asked_tokens limit s line Show h m = absurd m

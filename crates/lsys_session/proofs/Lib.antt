@@ -3,4 +3,5 @@ pub mod Whole
 pub mod Levels
 pub mod Answering
 pub mod Editing
+pub mod PutLevels
 pub mod Querying

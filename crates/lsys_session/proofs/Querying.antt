@@ -16,11 +16,8 @@ use Rattle.lsys_spec.specs.PictureTexts.{segments_text, svg_text}
 use Rattle.lsys_spec.specs.Refusals.{Reply, said, refused, refused_memory, line_feed}
 use Rattle.lsys_spec.specs.Replies.{shown, or_text, picture_of, picture_refusal_text, string_line, level_at}
 use Rattle.lsys_spec.specs.Output.{memory_or}
-use Rattle.lsys_module.specs.Views.{string_of}
-use Rattle.lsys_module.specs.declared.symbol.Symbol.{Symbol}
 use Rattle.lsys_level.specs.Spots as spots
 use Rattle.lsys_level.specs.Spots.{Spotted}
-use Rattle.lsys_level.specs.Views.{IsCopy}
 use Rattle.lsys_hom.specs.Refusals.{refusal_of}
 use Rattle.lsys_hom.specs.declared.refusal.ImageRefusal.{ImageRefusal}
 use Rattle.lsys_match.specs.Derivations.{IsDerived}
@@ -32,7 +29,7 @@ use Rattle.lsys_out.specs.declared.refusal.PictureRefusal.{PictureRefusal as Ref
 use Rattle.lsys_out.specs.declared.refusal.PictureRefusal.TheVariants as refusals
 use Rattle.lsys_session.specs.Requests.{HasLevel, reply_to}
 use Rattle.lsys_session.specs.Sessions.{WasSaid}
-use Rattle.lsys_session.specs.Given.{HasImage, IsWellUnder, IsLevelWithin, level_number, outcome_by_reply, WasGiven, WasPrinted, picture_text, picture_reply, picture_line, picture_request}
+use Rattle.lsys_session.specs.Given.{HasImage, IsWellUnder, IsLevelWithin, level_line, level_number, outcome_by_reply, WasGiven, WasPrinted, picture_text, picture_reply, picture_line, picture_request}
 use Rattle.lsys_session.specs.declared.outcome.Outcome.{Outcome}
 use Rattle.lsys_session.specs.declared.outcome.Outcome.TheVariants as outcomes
 use Rattle.lsys_session.specs.declared.pictures.Picture.{Picture}
@@ -64,22 +61,18 @@ module _ (limit : ℕ) (s : System) (levels : List (List Spotted)) (d : IsDerive
   numbered_line None = levelled.last_level_is s limit d.meant d.is
   numbered_line (Some t) = levelled.level_is s limit d.meant t d.is
 
-  copied_line : (t : Option ℕ) (symbols : List Symbol) → IsCopy (spots.spots_at levels (level_number s.depth t)) symbols → string_text (string_of symbols) ++ line_feed ≡ string_line t d.meant
-  copied_line t symbols copy =
-      ap (λ x. string_text x ++ line_feed) (copy (λ tag. []) ∙ d.view.strings.string (level_number s.depth t) ∙ ap (map plain) (sym (numbered_line t)))
+  seen_line : (t : Option ℕ) → level_line (spots.spots_at levels (level_number s.depth t)) ≡ string_line t d.meant
+  seen_line t =
+      ap (λ x. string_text x ++ line_feed) (d.view.strings.string (level_number s.depth t) ∙ ap (map plain) (sym (numbered_line t)))
 
   string_reply : (t : Option ℕ) → reply_to limit s (String t) ≡ said s (string_line t d.meant)
   string_reply t = ap (shown s (string_line t)) (meant_levels limit s d.meant d.is)
 
-  pub level_given : {K : Type 0} (written : K → Option (List ℕ)) (faults : K → ℕ) (a b : K) (held : List ℕ) (t : Option ℕ) (symbols : List Symbol) (result : Result Outcome Failed)
-      → IsCopy (spots.spots_at levels (level_number s.depth t)) symbols → WasSaid written faults a b held (string_text (string_of symbols) ++ line_feed) outcomes.Printed result
+  pub level_given : {K : Type 0} (written : K → Option (List ℕ)) (faults : K → ℕ) (a b : K) (held : List ℕ) (t : Option ℕ) (result : Result Outcome Failed)
+      → WasSaid written faults a b held (level_line (spots.spots_at levels (level_number s.depth t))) outcomes.Printed result
       → WasGiven written faults a b held limit s s (String t) result
-  level_given written faults a b held t symbols result copy says =
-      gives_so false (said s (string_line t d.meant)) (string_reply t) (subst (λ text. WasSaid written faults a b held text outcomes.Printed result) (copied_line t symbols copy) says) refl
-
-  pub level_lacking : {K : Type 0} (written : K → Option (List ℕ)) (faults : K → ℕ) (a b : K) (held : List ℕ) (t : Option ℕ) (result : Result Outcome Failed)
-      → WasSaid written faults a b held (codes "refused memory" ++ line_feed) outcomes.Memory result → WasGiven written faults a b held limit s s (String t) result
-  level_lacking written faults a b held t result says = gives_so true (refused_memory s) refl says refl
+  level_given written faults a b held t result says =
+      gives_so false (said s (string_line t d.meant)) (string_reply t) (subst (λ text. WasSaid written faults a b held text outcomes.Printed result) (seen_line t) says) refl
 
   -- 2. pictures
 

@@ -1,5 +1,5 @@
 -- A text is put, and then all that is held is written.
-use Rattle.std.proofs.Common.{◌≡◌, ℕ, Bool, true, false, Option, Result, Ok, Err, List, [], append-nil, ap, subst, sym, ◌∙◌, true≢false}
+use Rattle.std.proofs.Common.{◌≡◌, ℕ, Option, Result, Ok, Err, List, [], append-nil, subst, sym, true≢false}
 use Rattle.std.specs.Prelude.{◌≢◌, IfOk, IsErr}
 use Rattle.lsys_io.specs.Writes.{WasPut}
 use Rattle.lsys_io.proofs.Puts.{puts_then, puts_refused, puts_answering}

@@ -1,11 +1,12 @@
 -- What a request is answered, where memory may be wanting.
-use Rattle.std.specs.Prelude.{◌≡◌, ◌≤◌, ℕ, Some, None, Bool, true, false, ◌&&◌, ◌++◌, Option, Result, Ok, IfOk, IsOk, List, codes}
+use Rattle.std.specs.Prelude.{◌≡◌, ◌≤◌, ℕ, Some, None, Bool, true, false, ◌&&◌, ◌++◌, Option, Result, Ok, IfOk, IsOk, List, [], map, codes, ℤ}
 use Rattle.lsys_syntax.specs.Limits.{greatest_module_limit}
 use Rattle.lsys_io.specs.declared.Failed.{Failed}
 use Rattle.lsys_laws.specs.Sessions.{IsWell, HasLevels}
 use Rattle.lsys_syntax.specs.Strings.{string_text}
+use Rattle.lsys_syntax.specs.Strings as strings
 use Rattle.lsys_spec.specs.Systems.{System}
-use Rattle.lsys_spec.specs.Levels.{LevelSymbol}
+use Rattle.lsys_spec.specs.Levels.{LevelSymbol, plain}
 use Rattle.lsys_spec.specs.Meaning.{last_level, meaning}
 use Rattle.lsys_spec.specs.Images.{image}
 use Rattle.lsys_spec.specs.Lattices.{Lattice}
@@ -14,8 +15,9 @@ use Rattle.lsys_spec.specs.PictureTexts.{segments_text, svg_text}
 use Rattle.lsys_spec.specs.Refusals.{Reply, line_feed}
 use Rattle.lsys_spec.specs.Replies.{shown, or_text, picture_refusal_text, edited, levels_of}
 use Rattle.lsys_spec.specs.Output.{memory_or}
-use Rattle.lsys_module.specs.Views.{string_of}
-use Rattle.lsys_module.specs.declared.symbol.Symbol.{Symbol}
+use Rattle.lsys_level.specs.Spots.{Spotted, level_by, with_lineage}
+use Rattle.lsys_level.specs.Views.{seen_of}
+use Rattle.lsys_level.specs.declared.sight.Sight.{Sight}
 use Rattle.lsys_hom.specs.Refusals.{refusal_of}
 use Rattle.lsys_hom.specs.declared.refusal.ImageRefusal.{ImageRefusal}
 use Rattle.lsys_session.specs.Requests.{reply_to}
@@ -25,7 +27,7 @@ use Rattle.lsys_session.specs.declared.outcome.Outcome.TheVariants as outcomes
 use Rattle.lsys_session.specs.declared.pictures.Picture.{Picture}
 use Rattle.lsys_session.specs.declared.pictures.Picture.TheVariants as pictures
 use Rattle.lsys_session.specs.declared.request.Request.{Request}
-use Rattle.lsys_session.specs.declared.request.Request.TheVariants.{Nothing, Edit, Segments, Svg, Show, Quit}
+use Rattle.lsys_session.specs.declared.request.Request.TheVariants.{Nothing, Edit, String, Segments, Svg, Show, Quit}
 
 -- 1. what a session keeps
 
@@ -58,6 +60,7 @@ abbrev pub MayLack : ℕ → System → Request → Type 0
 MayLack limit s Nothing = ⊥
 MayLack limit s Segments = HasImage limit s
 MayLack limit s Svg = HasImage limit s
+MayLack limit s (String level) = ⊥
 MayLack limit s Show = ⊥
 MayLack limit s Quit = ⊥
 MayLack limit s r = Unit {0}
@@ -126,6 +129,14 @@ picture_line r = codes "refused " ++ picture_refusal_text r ++ line_feed
 abbrev pub no_image_line : ImageRefusal → List ℕ
 no_image_line r = picture_line (NoImage (refusal_of r))
 
--- of a level that is printed
-abbrev pub level_line : List Symbol → List ℕ
-level_line symbols = string_text (string_of symbols) ++ line_feed
+-- the symbol that is seen
+abbrev pub symbol_seen : Sight → strings.Symbol ℤ
+symbol_seen sight = plain (with_lineage [] (seen_of sight))
+
+-- a level as it is printed: what lineages its symbols have isn't told
+abbrev pub text_of_level : List Spotted → List ℕ
+text_of_level spots = string_text (map plain (level_by (λ tag. []) spots))
+
+-- and on a line of its own
+abbrev pub level_line : List Spotted → List ℕ
+level_line spots = text_of_level spots ++ line_feed

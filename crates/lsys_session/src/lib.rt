@@ -9,6 +9,7 @@ mod replies;
 mod request;
 mod sayings;
 mod session;
+mod strings;
 
 pub use outcome::Outcome;
 pub use read_line::ReadLine;

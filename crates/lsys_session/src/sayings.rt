@@ -1,19 +1,21 @@
 //! Replies that are put whole: all that is held is written behind each.
-ghost use Rattle.std.specs.Prelude.{◌≡◌, [], IfOk};
+ghost use Rattle.std.specs.Prelude.{◌≡◌, ◌<◌, [], IfOk, length};
 ghost use Rattle.lsys_spec.specs.Shown.{show_text};
 ghost use Rattle.lsys_session.specs.Requests.{count_text, refusal_line};
 ghost use Rattle.lsys_session.specs.Sessions.{refusal_outcome};
 ghost use Rattle.lsys_session.specs.declared.outcome.Outcome.TheVariants.{Accepted, Printed, Refused};
 ghost use Rattle.lsys_io.specs.Putting.{Puts};
+ghost use Rattle.lsys_level.specs.Spots.{spots_at};
 ghost use Rattle.lsys_spec.specs.Pictures.{Far};
 ghost use Rattle.lsys_session.specs.Given.{picture_line, no_image_line, level_line};
 ghost use Rattle.lsys_session.specs.Calls.{Says, SaysNoLevels};
 
 use crate::outcome::{Outcome, of_derivation, of_refusal};
 use crate::replies::{finish, put_count, put_far, put_no_image, put_no_levels, put_refusal};
+use crate::strings::put_level;
 use lsys_hom::ImageRefusal;
 use lsys_io::{Buffered, Failed, Sink};
-use lsys_module::{SymbolList, print_string};
+use lsys_level::LevelView;
 use lsys_rewrite::{DeriveRefusal, EditCount};
 use lsys_rules::{Refusal, System, show};
 
@@ -89,20 +91,22 @@ pub(crate) fn show_system<K: Sink>(
     Ok(Outcome::Printed)
 }
 
-/// Answers with a level on a line.
+/// Answers with a level on a line. It takes no memory.
 ///
 /// # Errors
 ///
 /// The sink failed; a front of the reply was written then.
-pub(crate) fn print_line<K: Sink>(
+pub(crate) fn print_line<K: Sink, W: LevelView>(
     out: &mut Buffered,
     sink: &mut K,
-    symbols: &SymbolList,
+    view: &W,
+    level: u32,
 ) -> Result<Outcome, Failed>
-    requires { out.old ≡ [] }
-    ensures { Says K.Sink sink out (level_line symbols.now) Printed result }
+    requires empty { out.old ≡ [] }
+    requires level { level < length (W.levels view.now) }
+    ensures { Says K.Sink sink out (level_line (spots_at (W.levels view.now) level)) Printed result }
 {
-    print_string(out, sink, symbols)?;
+    put_level(out, sink, view, level)?;
     out.put(sink, b"\n")?;
     finish(out, sink)?;
     Ok(Outcome::Printed)

@@ -14,7 +14,6 @@ use crate::pictures::{Picture, print_picture};
 use crate::request::{Request, request_in};
 use crate::sayings::{accept, print_line, refuse, refuse_edit, show_system};
 use lsys_io::{Buffered, Failed, Sink};
-use lsys_level::copy_level;
 use lsys_match::{Derivation, Steps};
 use lsys_rules::{Refusal, System};
 use std::alloc::{AllocError, Global};
@@ -143,7 +142,7 @@ impl<L: Ledger, D: Derivation<L>> Session<L, D> {
     ///
     /// The counters rise as at the line. What is no edit, or isn't accepted, leaves the session as it was.
     ///
-    /// Want of memory is told in place of no refusal that is found without memory: that of a picture's image.
+    /// Want of memory is told in place of no refusal that is found without memory: that of a picture's image. A level takes none.
     ///
     /// # Errors
     ///
@@ -169,7 +168,7 @@ impl<L: Ledger, D: Derivation<L>> Session<L, D> {
         match request {
             Request::Nothing => Ok(Outcome::Skipped),
             Request::Edit(next) => self.edit(alloc, next, out, sink, asked, visited),
-            Request::String { level } => self.print_level(alloc, level, out, sink),
+            Request::String { level } => self.print_level(level, out, sink),
             Request::Segments => self.print_picture(alloc, Picture::Segments, out, sink),
             Request::Svg => self.print_picture(alloc, Picture::Svg, out, sink),
             Request::Show => show_system(out, sink, self.derivation.system()),
@@ -202,20 +201,17 @@ impl<L: Ledger, D: Derivation<L>> Session<L, D> {
     // Answers with a level that is there; the last one without a number.
     fn print_level<K: Sink>(
         &self,
-        alloc: Global,
         level: Option<u64>,
         out: &mut Buffered,
         sink: &mut K,
     ) -> Result<Outcome, Failed>
         requires empty { out.old ≡ [] }
         requires level { HasLevel (D.system_of self.now) (String level) }
-        ensures { Quotes K.Sink sink out D.limit_of D.system_of self.now (String level) result }
+        ensures quotes { Quotes K.Sink sink out D.limit_of D.system_of self.now (String level) result }
+        ensures memory { result ≢ Ok Memory }
     {
         let depth = self.derivation.system().depth();
-        match copy_level(alloc, &self.derivation, number_of(level, depth)) {
-            Ok(symbols) => print_line(out, sink, &symbols),
-            Err(_) => refuse(out, sink, Refusal::Memory),
-        }
+        print_line(out, sink, &self.derivation, number_of(level, depth))
     }
 
     // Answers with the last level's picture.

@@ -1,4 +1,4 @@
-use Rattle.std.proofs.Common.{length, ap, subst, sym}
+use Rattle.std.proofs.Common.{subst}
 use Rattle.lsys_text.proofs.LineTokens.{line-forms}
 use Rattle.lsys_rules.specs.Parsing.{IsParsedLine}
 use Rattle.lsys_session.proofs.Requests.{parsed_line}

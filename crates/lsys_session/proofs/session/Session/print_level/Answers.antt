@@ -1,15 +1,16 @@
 use Rattle.std.proofs.Common.{◌≡◌, ◌≤◌, ap, sym, ◌∙◌, subst}
 use Rattle.lsys_spec.specs.Systems.{System}
 use Rattle.lsys_level.specs.Spots.{spots_at}
-use Rattle.lsys_level.specs.Views.{IsCopy}
 use Rattle.lsys_session.specs.Requests.{HasLevel}
-use Rattle.lsys_session.specs.Given.{level_number}
+use Rattle.lsys_session.specs.Given.{level_line, level_number}
+use Rattle.lsys_session.specs.Sessions.{WasSaid}
+use Rattle.lsys_session.specs.declared.outcome.Outcome.TheVariants.{Printed}
 use Rattle.lsys_session.specs.declared.request.Request.TheVariants.{String}
 use Rattle.lsys_session.proofs.Querying.{within_by, number_within, level_there, level_given}
 use Rattle.lsys_session.proofs.session.Session.print_level.Goals as goal
 
-pub copy_level-requires : goal.copy_level-requires
-copy_level-requires g c =
+pub print_line-requires-clause-level : goal.print_line-requires-clause-level
+print_line-requires-clause-level g c =
     let limit = g.D.Derivation.limit_of c.self.inside.derivation in
     let s = g.D.Derivation.system_of c.self.inside.derivation in
     let number : c.number_of.result ≡ level_number s.depth c.args.level = c.number_of.ensures ∙ ap (λ n. level_number n c.args.level) (c.depth-depth.ensures.depth ∙ ap (λ (t : System). t.depth) c.system.ensures.system) in
@@ -17,11 +18,11 @@ copy_level-requires g c =
     let within : level_number s.depth c.args.level ≤ s.depth = number_within s.depth c.args.level (within_by s c.args.level there) in
     level_there limit s (g.D.LevelView.levels c.self.inside.derivation) c.system.ensures.levels c.number_of.result (rw number within)
 
-pub returns-in-Ok : goal.returns-in-Ok
-returns-in-Ok g c =
+pub returns-clause-quotes : goal.returns-clause-quotes
+returns-clause-quotes g c =
     let limit = g.D.Derivation.limit_of c.self.inside.derivation in
     let s = g.D.Derivation.system_of c.self.inside.derivation in
     let levels = g.D.LevelView.levels c.self.inside.derivation in
     let number : c.number_of.result ≡ level_number s.depth c.args.level = c.number_of.ensures ∙ ap (λ n. level_number n c.args.level) (c.depth-depth.ensures.depth ∙ ap (λ (t : System). t.depth) c.system.ensures.system) in
-    let copy : IsCopy (spots_at levels (level_number s.depth c.args.level)) c.in-Ok.symbols = subst (λ n. IsCopy (spots_at levels n) c.in-Ok.symbols) number c.in-Ok.ensures in
-    rw (← c.self.view_is) (level_given limit s levels c.system.ensures.levels g.K.Sink.written g.K.Sink.faults c.args.sink.now c.print_line.new.sink c.print_line.new.out c.args.level c.in-Ok.symbols c.print_line.result copy c.print_line.ensures)
+    let says = subst (λ n. WasSaid g.K.Sink.written g.K.Sink.faults c.args.sink.now c.print_line.new.sink c.print_line.new.out (level_line (spots_at levels n)) Printed c.print_line.result) number c.print_line.ensures in
+    rw (← c.self.view_is) (level_given limit s levels c.system.ensures.levels g.K.Sink.written g.K.Sink.faults c.args.sink.now c.print_line.new.sink c.print_line.new.out c.args.level c.print_line.result says)
