@@ -13,10 +13,10 @@ from squares import instructions
 
 # What an edit may cost, in what it costs to derive anew what it leaves.
 MOST_OF_ANEW = 1.2
-LARGE = "what is let go is several times as large as what is left: letting go a node costs a third of making one, or more"
-CLIMBS = "half of a level changes, which isn't linked then: who stands beside a node is found by climbs"
+LARGE = "more is let go than is left, or several times as much: letting go a node costs a third of making one, or more"
 ALL = "each node has another number, so all are made anew beside those that are let go"
-OTHER = "an old node gets another symbol with parameters, which costs some more than to make one"
+OTHER = "old nodes get other symbols or other children, which are matched with those that they had: to make one costs less"
+KEYS = "each node gets another key and is asked again, and what it becomes is matched with what it was: to make one costs less"
 
 
 class Dear(NamedTuple):
@@ -27,16 +27,20 @@ class Dear(NamedTuple):
 
 # Edits that may cost more, by system and kind.
 DEARER = {
-    ("koch", "the production of all lines"): Dear(3.6, LARGE),
-    ("koch", "depth down by one"): Dear(2.6, LARGE),
-    ("koch", "axiom: a symbol in front, by places"): Dear(1.3, ALL),
-    ("plant", "the production of the buds"): Dear(2.8, LARGE),
-    ("plant", "axiom: a symbol in front, by places"): Dear(1.7, ALL),
-    ("row by names", "lineage by places"): Dear(1.6, ALL),
-    ("row", "lineage by names"): Dear(1.6, ALL),
-    ("row", "axiom: one in the middle"): Dear(1.5, CLIMBS),
-    ("left context", "axiom: one in the middle"): Dear(1.5, CLIMBS),
-    ("parameters and weights", "a production of all of a letter"): Dear(1.3, OTHER),
+    ("koch", "the production of all lines"): Dear(4.3, LARGE),
+    ("koch", "depth down by one"): Dear(3.3, LARGE),
+    ("koch", "axiom: a symbol in front, by places"): Dear(1.4, ALL),
+    ("plant", "the production of the buds"): Dear(3.0, LARGE),
+    ("plant", "depth down by one"): Dear(1.4, LARGE),
+    ("plant", "axiom: a symbol in front, by places"): Dear(1.9, ALL),
+    ("row by names", "lineage by places"): Dear(1.8, ALL),
+    ("row", "lineage by names"): Dear(1.8, ALL),
+    ("row", "axiom: a symbol in front, by places"): Dear(1.5, ALL),
+    ("left context", "axiom: a symbol in front, by places"): Dear(1.4, ALL),
+    ("row", "axiom: all others"): Dear(1.4, OTHER),
+    ("row", "a production of half of all symbols"): Dear(1.4, OTHER),
+    ("parameters and weights", "a production of all of a letter"): Dear(1.4, OTHER),
+    ("parameters and weights", "seed, with weights"): Dear(1.4, KEYS),
 }
 
 LIMIT = b"--limit=1000000"
