@@ -37,7 +37,7 @@ constant_filled values (templates.Pop ∷ ts) ss h = one_more values ts ss (cons
 constant_filled values (templates.Cut ∷ ts) ss h = one_more values ts ss (constant_filled values ts) symbols.Cut (constant_of ts) refl h
 constant_filled values (templates.Module name params ∷ ts) ss h = one_bare values ts ss (constant_filled values ts) name params.items h
 
--- 2. how they are found: behind these symbols come those of the templates that are left
+-- 2. how they are found: after these symbols come those of the templates that are left
 
 abbrev pub with_front : List Symbol → Option (List Symbol) → Option (List Symbol)
 with_front front o = option_map (λ more. front ++ more) o

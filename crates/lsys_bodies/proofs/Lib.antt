@@ -1,8 +1,15 @@
 pub mod Loops
 pub mod Known
-pub mod Formals
+pub mod GatheredFormals
 pub mod Means
 pub mod Named
 pub mod Nests
 pub mod Among
 pub mod Constants
+pub mod Adding
+pub mod HeadNames
+pub mod Searches
+pub mod WholeSearch
+pub mod Counted
+pub mod CountLoops
+pub mod WholeCount

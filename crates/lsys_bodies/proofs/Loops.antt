@@ -14,7 +14,7 @@ drop-suc [] i x h e = absurd (omega arith)
 drop-suc (y ∷ xs) zero x h e = ap (λ z. z ∷ xs) (sym e)
 drop-suc (y ∷ xs) (suc i) x h e = drop-suc xs i x (omega arith) e
 
--- an element, and those behind it
+-- an element, and those after it
 pub drop-here : {A : Type 0} → (xs : List A) (i : ℕ) (x : A) → i < length xs → x ≡ get_or xs i x → drop i xs ≡ x ∷ drop (i + 1) xs
 drop-here xs i x h e = rw add-one (drop-suc xs i x h e)
 

@@ -45,7 +45,7 @@ module _ (fs : List NameText) where
       let rest = known-kinds ks ps t.1 in
       (neither (is_unknown fs k) (list_any (is_unknown fs) ks) t.0 rest.0, rest.1)
 
-  -- an expression, and what stands behind it
+  -- an expression, and what stands after it
   known-expr : (e : Expr) (ps : List Piece) → unknown fs false (expr_pieces e ++ ps) ≡ false → IsKnown fs e × (unknown fs false ps ≡ false)
   known-expr e ps h = known-kinds (expr_kinds e) (note expr_ends ∷ ps) (sym (ap (unknown fs true) (append_assoc (map token (expr_kinds e)) (note expr_ends ∷ []) ps)) ∙ h)
 

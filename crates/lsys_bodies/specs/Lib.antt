@@ -5,3 +5,11 @@ pub mod Filters
 pub mod Same
 pub mod BuiltParts
 pub mod Constants
+pub mod Formals
+pub mod Searching
+pub mod Counting
+pub mod PatternPieces
+pub mod SpanPieces
+pub mod CountedParts
+pub mod FoundNames
+pub mod AddedFormals

@@ -71,7 +71,7 @@ tree_in e = e.tree
 abbrev pub as_pattern : Pattern → spec.Pattern
 as_pattern p = record { name = module_name p.name; arity = length p.formals.items }
 
--- the patterns that items are, and behind each bracket that ends their branch the patterns around it
+-- the patterns that items are, and after each bracket that ends their branch the patterns around it
 abbrev pub nest : List Item → PatternNest
 nest [] = outermost Done
 nest (items.Pattern p ∷ xs) = with_pattern (as_pattern p) (nest xs)

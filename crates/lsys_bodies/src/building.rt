@@ -21,7 +21,7 @@ use std::alloc::{AllocError, Global};
 ///
 /// # Errors
 ///
-/// Want of memory alone.
+/// Out of memory alone.
 pub fn build_rule(
     alloc: Global,
     tokens: &[Token],
@@ -42,7 +42,7 @@ pub fn build_rule(
 ///
 /// # Errors
 ///
-/// Want of memory alone.
+/// Out of memory alone.
 pub fn build_hom_rule(
     alloc: Global,
     tokens: &[Token],

@@ -9,7 +9,7 @@ use Rattle.lsys_syntax.specs.Lines.{lines_of}
 use Rattle.lsys_syntax.specs.Limits.{most_script_bytes}
 use Rattle.lsys_spec.specs.Refusals.{Reply}
 use Rattle.lsys_spec.specs.Output.{output_text, any_refusal, any_memory, any_end, none, whole_lines}
-use Rattle.lsys_desks.specs.Desks.{Desk, DeskReply, desk_followed, desk_out, desk_replies_from}
+use Rattle.lsys_history.specs.Desks.{Desk, DeskReply, desk_followed, desk_out, desk_replies_from}
 use Rattle.lsys_spec.specs.Costs.{Cost, Visits}
 use Rattle.lsys_cli.specs.Ends.{script_front, RunView, Worked, WroteOutput, WroteLacking, WroteLines, WroteFront, WroteGiven, WroteWithin, OfScript, Ends}
 use Rattle.lsys_cli.specs.Runs.{status_of}
@@ -124,7 +124,7 @@ untold_ends visits limit left old now refused true = of_memory visits limit None
 untold_ends visits limit left old now true false = of_refused visits limit None left old now tt
 untold_ends visits limit left old now false false = of_done visits limit None left old now tt
 
--- 3. a run that stopped behind some whole lines
+-- 3. a run that stopped after some whole lines
 
 stopped_behind : (visits : Visits) (limit : ℕ) (script rest : List ℕ) (old now : RunView) (d : Desk) (refused memory : Bool) (taken : ℕ) (k : Running visits limit script rest old now d refused memory taken)
     → (bytes more : List ℕ) → bytes ≡ k.front ++ more → has_lf more ≡ false → WroteLines visits limit old now bytes

@@ -3,11 +3,11 @@ use Rattle.std.proofs.Common.{◌≡◌, ◌≢◌, ◌⊎◌, ◌+◌, ◌&&◌
 use Rattle.lsys_spec.specs.Refusals.{Reply}
 use Rattle.lsys_spec.specs.Samples.{sample}
 use Rattle.lsys_spec.specs.Output.{may_lack_memory, any_refusal, any_memory, any_end, none, whole_lines}
-use Rattle.lsys_desks.specs.Desks.{Desk, DeskReply, desk_followed, desk_memory_or, desk_replies_from, desk_reply, desk_reply_or_memory}
-use Rattle.lsys_words.specs.declared.Options.{Options}
+use Rattle.lsys_history.specs.Desks.{Desk, DeskReply, desk_followed, desk_memory_or, desk_replies_from, desk_reply, desk_reply_or_memory}
+use Rattle.lsys_cli.specs.declared.options.Options.{Options}
 use Rattle.std.specs.Option.{IfSome}
-use Rattle.lsys_words.specs.Words.{HasLimit, options_by}
-use Rattle.lsys_words.proofs.Bounds.{bounded}
+use Rattle.lsys_cli.specs.Words.{HasLimit, options_by}
+use Rattle.lsys_cli.proofs.Bounds.{bounded}
 use Rattle.lsys_spec.specs.Costs.{Visits}
 use Rattle.lsys_cli.specs.Ends.{OfScript, Ends, IsScriptWithin, RunView, WroteWithin, replies, script_front}
 use Rattle.lsys_cli.specs.Programs.{IsComplete, OnScript, script_run}

@@ -9,13 +9,13 @@ use Rattle.lsys_syntax.specs.Lines.{without_cr}
 use Rattle.lsys_syntax.specs.Limits.{most_line_bytes}
 use Rattle.lsys_spec.specs.Refusals.{Reply, line_feed, refused, is_long, is_passed_over}
 use Rattle.lsys_spec.specs.Replies.{bare_reply, bare_spelled}
-use Rattle.lsys_desks.specs.Desks.{Desk, DeskLine, DeskReply, answered, bare_asks, desk_memory_or, desk_reply_or_memory, reply_by}
+use Rattle.lsys_history.specs.Desks.{Desk, DeskLine, DeskReply, answered, bare_asks, desk_memory_or, desk_reply_or_memory, reply_by}
 use Rattle.lsys_session.specs.Answers.{may_lack, refuses, lacks_memory, ends_session}
 use Rattle.lsys_spec.specs.Costs.{Visits}
 use Rattle.lsys_laws.specs.Sessions.{HasLevels}
-use Rattle.lsys_desks.specs.Costs.{desk_line_cost, line_leads}
+use Rattle.lsys_history.specs.Costs.{desk_line_cost, line_leads}
 use Rattle.lsys_session.specs.Answers.{Counters}
-use Rattle.lsys_desk.specs.Answers.{WasReplied, TellsLead, answer_or_memory, is_led, leads_to, line_answer}
+use Rattle.lsys_cli.specs.Answers.{WasReplied, TellsLead, answer_or_memory, is_led, leads_to, line_answer}
 use Rattle.lsys_cli.specs.Ends.{RunView, Worked}
 use Rattle.lsys_cli.specs.Runs.{AnswersLong, CountsLine}
 use Rattle.lsys_session.specs.declared.outcome.Outcome.{Outcome}

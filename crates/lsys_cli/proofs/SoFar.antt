@@ -13,9 +13,9 @@ use Rattle.lsys_spec.specs.Costs.{Cost, Visits, ◌and◌, no_cost}
 use Rattle.lsys_spec.proofs.CostSums.{and_assoc}
 use Rattle.lsys_laws.specs.Sessions.{HasLevels}
 use Rattle.lsys_laws.proofs.KeptLevels.{opening_levels}
-use Rattle.lsys_desks.specs.Costs.{cost_followed, desk_cost, desk_costs_from, desk_line_cost}
-use Rattle.lsys_desks.proofs.Spending.{and_none, line_levels}
-use Rattle.lsys_desks.specs.Desks.{Desk, DeskReply, desk_followed, desk_out, desk_replies_from, desk_reply_or_memory, opening_desk}
+use Rattle.lsys_history.specs.Costs.{cost_followed, desk_cost, desk_costs_from, desk_line_cost}
+use Rattle.lsys_history.proofs.Spending.{and_none, line_levels}
+use Rattle.lsys_history.specs.Desks.{Desk, DeskReply, desk_followed, desk_out, desk_replies_from, desk_reply_or_memory, opening_desk}
 use Rattle.std.proofs.Math.Seq.{take-append-add}
 use Rattle.lsys_cli.specs.Ends.{IsScriptWithin, RunView, Worked, script_front}
 use Rattle.lsys_session.specs.Answers.{refuses, lacks_memory, ends_session}
@@ -156,7 +156,7 @@ pub record Tells (visits : Visits) (limit : ℕ) (bytes : List ℕ) (M : ℕ →
   pub replies : desk_out limit bytes M ≡ given
   pub costs : desk_cost visits limit bytes M ≡ cost
 
--- for each M that agrees, some bytes are answered by the replies so far and those to what is behind them
+-- for each M that agrees, some bytes are answered by the replies so far and those to what is after them
 abbrev pub Told : Visits → ℕ → ℕ → (ℕ → Bool) → List Reply → Cost → List ℕ → Desk → List (List ℕ) → Type 0
 Told visits limit number answered given cost bytes d lines = (M : ℕ → Bool) → Agrees number answered M
     → Tells visits limit bytes M (given ++ desk_replies_from limit M number d lines) (cost and desk_costs_from visits limit M number d lines)
@@ -342,7 +342,7 @@ quit_last visits limit script line old now now' d next refused memory taken o k 
   within = λ M _. inl (script_length limit script line k.front taken k.split k.counted small);
 }
 
--- no byte is left behind the lines
+-- no byte is left after the lines
 pub no_more : (visits : Visits) (limit : ℕ) (script : List ℕ) (old now : RunView) (d : Desk) (refused memory : Bool) (taken : ℕ)
     → Running visits limit script [] old now d refused memory taken → taken ≤ most_script_bytes → Finished visits limit script old now refused memory
 no_more visits limit script old now d refused memory taken k small = record {

@@ -15,7 +15,7 @@ use Rattle.lsys_io.specs.declared.lines.LineRefusal.{LineRefusal}
 use Rattle.lsys_io.specs.declared.lines.LineRefusal.TheVariants as refusals
 use Rattle.lsys_io.specs.Causes.{Rose}
 use Rattle.lsys_io.specs.LineAnswers.{OnEnd, OnLine, OnLong, OnNoEnd, OnNoFault, OnReadFault, OnTooLong}
-use Rattle.lsys_desks.specs.Desks.{Desk, opening_desk}
+use Rattle.lsys_history.specs.Desks.{Desk, opening_desk}
 use Rattle.lsys_spec.specs.Costs.{Visits}
 use Rattle.lsys_session.specs.Answers.{Counters}
 use Rattle.lsys_cli.specs.Ends.{Ends, RunView}

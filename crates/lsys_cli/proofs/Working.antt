@@ -13,14 +13,14 @@ use Rattle.lsys_spec.specs.Output.{may_lack_memory}
 use Rattle.lsys_spec.specs.Costs.{Cost, Visits, ◌and◌, cost_to, edit_by, edit_cost, no_cost, one_refusal, changed_unless_refused}
 use Rattle.lsys_spec.proofs.CostSums.{both_within}
 use Rattle.lsys_laws.specs.Sessions.{HasLevels}
-use Rattle.lsys_desks.specs.Desks.{Desk, DeskLine, DeskReply, bare_asks, desk_memory_or, desk_reply}
-use Rattle.lsys_desks.specs.Costs.{desk_line_cost, leads_by, line_leads}
-use Rattle.lsys_desks.proofs.Spending.{IsReplyOf, next_system, of_desk}
+use Rattle.lsys_history.specs.Desks.{Desk, DeskLine, DeskReply, bare_asks, desk_memory_or, desk_reply}
+use Rattle.lsys_history.specs.Costs.{desk_line_cost, leads_by, line_leads}
+use Rattle.lsys_history.proofs.Spending.{IsReplyOf, next_system, of_desk}
 use Rattle.lsys_match.specs.Derivations.{Rises}
 use Rattle.lsys_session.specs.Answers.{Counters, WasCounted, Few, Needed, is_derived, is_unrefused, lacks_memory, leads_on, line_spelled, refuses}
 use Rattle.lsys_session.specs.declared.outcome.Outcome.{Outcome}
 use Rattle.lsys_session.specs.declared.outcome.Outcome.TheVariants as outcomes
-use Rattle.lsys_desk.specs.Answers.{TellsLead, is_led, leads_to, line_asks}
+use Rattle.lsys_cli.specs.Answers.{TellsLead, is_led, leads_to, line_asks}
 use Rattle.lsys_cli.specs.Ends.{Worked}
 
 -- 1. counters that rose
@@ -105,7 +105,7 @@ module _ (visits : Visits) (limit : ℕ) (s after : System) (before then : Count
   abbrev Moved : Outcome → Type 0
   Moved o = WasCounted visits limit derived s after before then (Ok o)
 
-  -- refused for want of memory
+  -- refused as out of memory
   at_memory : (o : Outcome) → true ≡ lacks_memory o → Moved o → Worked limit one_refusal before then
   at_memory outcomes.Skipped e c = cc
   at_memory outcomes.Accepted e c = cc
@@ -164,7 +164,7 @@ module _ (visits : Visits) (limit : ℕ) (s after : System) (before then : Count
       subst (λ k. Worked limit (edit_cost visits s next k (meaning next limit)) before then) (sym x.1)
       (at_meant o next x.0 (meaning next limit) r x.1 refl e f m a t c)
 
--- a line that may be refused for want of memory
+-- a line that may be refused as out of memory
 worked_at : (visits : Visits) (limit : ℕ) (d after : Desk) (line : List ℕ) (b derived : Bool) (r : DeskReply) (o : Outcome) (before then : Counters) → HasLevels limit d.system
     → r ≡ desk_memory_or b d (desk_reply limit d line) → r.reply.is_refusal ≡ refuses o → r.reply.is_memory ≡ lacks_memory o → after ≡ r.next → TellsLead (line_leads d line) o
     → (line_leads d line ≡ None → derived ≡ false) → WasCounted visits limit derived d.system after.system before then (Ok o)

@@ -12,11 +12,11 @@ use Rattle.lsys_spec.specs.Systems.{System}
 use Rattle.lsys_spec.specs.Output.{any_refusal, none}
 use Rattle.lsys_spec.specs.Samples.{sample}
 use Rattle.lsys_spec.specs.Costs.{Visits}
-use Rattle.lsys_words.specs.Words.{options_by, texts}
-use Rattle.lsys_words.specs.declared.Options.{Options}
+use Rattle.lsys_cli.specs.Words.{options_by, texts}
+use Rattle.lsys_cli.specs.declared.options.Options.{Options}
 use Rattle.lsys_session.specs.Calls.{counters}
 use Rattle.lsys_session.specs.declared.outcome.Outcome.{Outcome}
-use Rattle.lsys_desk.specs.Views.{Bench, desk_on}
+use Rattle.lsys_cli.specs.Views.{Bench, desk_on}
 use Rattle.lsys_cli.specs.Ends.{Ends, IsScriptWithin, RunView, WroteFront, WroteGiven, WroteLacking, WroteOutput, WroteWithin, replies, seen}
 use Rattle.lsys_cli.specs.Programs.{IsComplete, OnScript, Untouched, UntouchedSink, most_visits, script_run}
 use Rattle.lsys_cli.specs.Runs.{AnswersRead, CountsRead}
@@ -55,7 +55,7 @@ IfRefused words S source K sink asked visited status =
     status ≡ Refused → OnScript (options_by (texts words)) (S.left source.entry.now)
     (λ limit. WroteOutput most_visits limit true (seen_before K.written sink asked visited) (seen_after K.written sink asked visited))
 
--- There was no memory to begin; or the script's output was written, and some lines were refused for want of memory.
+-- There was no memory to begin; or the script's output was written, and some lines were refused as out of memory.
 abbrev pub IfMemory : {A S K : Type 0} → List (String A) → SourceOf S → Lent S → SinkOf K → Lent K → Lent ℕ → Lent ℕ → Status → Type 0
 IfMemory words S source K sink asked visited status =
     status ≡ Memory → TouchesNothing source sink asked visited
@@ -79,7 +79,7 @@ IfTooLong words S source K sink asked visited status =
     status ≡ TooLong → OnScript (options_by (texts words)) (S.left source.entry.now)
     (λ limit. WroteWithin most_visits limit (seen_before K.written sink asked visited) (seen_after K.written sink asked visited))
 
--- Where neither end failed, the script is within its length and nothing in its output is a refusal, the run is done, or want of
+-- Where neither end failed, the script is within its length and nothing in its output is a refusal, the run is done, or out of
 -- memory was said.
 abbrev pub IfWell : {A S K : Type 0} → List (String A) → SourceOf S → Lent S → SinkOf K → Lent K → Status → Type 0
 IfWell words S source K sink status =

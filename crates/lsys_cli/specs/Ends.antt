@@ -7,13 +7,13 @@ use Rattle.lsys_syntax.specs.Limits.{most_script_bytes}
 use Rattle.lsys_spec.specs.Refusals.{Reply}
 use Rattle.lsys_spec.specs.Output.{output_text, any_refusal, any_memory, any_end, none, whole_lines}
 use Rattle.lsys_spec.specs.Costs.{Cost, Visits, Within}
-use Rattle.lsys_desks.specs.Costs.{desk_cost}
-use Rattle.lsys_desks.specs.Desks.{desk_out}
+use Rattle.lsys_history.specs.Costs.{desk_cost}
+use Rattle.lsys_history.specs.Desks.{desk_out}
 use Rattle.lsys_session.specs.Answers.{Counters}
 use Rattle.lsys_cli.specs.declared.status.Status.{Status}
 use Rattle.lsys_cli.specs.declared.status.Status.TheVariants.{Done, Refused, Usage, ReadFault, WriteFault, Memory, TooLong}
 
--- the replies of a desk to a script, of which the lines in M are refused for want of memory
+-- the replies of a desk to a script, of which the lines in M are refused as out of memory
 abbrev pub replies : ℕ → List ℕ → (ℕ → Bool) → List Reply
 replies limit script M = desk_out limit script M
 
@@ -25,7 +25,7 @@ script_front script = take most_script_bytes script
 abbrev pub heeds_quit : ℕ → List ℕ → (ℕ → Bool) → Bool
 heeds_quit limit bytes M = any_end (replies limit (whole_lines bytes) M)
 
--- The script is within its length; what stands behind the line of a heeded `quit` doesn't count.
+-- The script is within its length; what stands after the line of a heeded `quit` doesn't count.
 abbrev pub IsScriptWithin : ℕ → List ℕ → (ℕ → Bool) → Type 0
 IsScriptWithin limit script M = (length script ≤ most_script_bytes) ⊎ (heeds_quit limit (script_front script) M ≡ true)
 
@@ -48,14 +48,14 @@ pub record Worked (limit : ℕ) (cost : Cost) (old new : Counters) : Type 0 wher
   pub visited_rose : new.visited ≡ old.visited + visited
   pub within : Within limit cost asked visited
 
--- The script's output was written, no line being refused for want of memory; and whether some reply is a refusal.
+-- The script's output was written, no line being refused as out of memory; and whether some reply is a refusal.
 pub record WroteOutput (visits : Visits) (limit : ℕ) (is_refused : Bool) (old new : RunView) (script : List ℕ) : Type 0 where
   pub written : Appends old.written new.written (output_text (replies limit script none))
   pub refusals : any_refusal (replies limit script none) ≡ is_refused
   pub within : IsScriptWithin limit script none
   pub worked : Worked limit (desk_cost visits limit script none) old.counters new.counters
 
--- The script's output was written, and some lines were refused for want of memory.
+-- The script's output was written, and some lines were refused as out of memory.
 pub record WroteLacking (visits : Visits) (limit : ℕ) (old new : RunView) (script : List ℕ) : Type 0 where
   pub lacks : ℕ → Bool
   pub written : Appends old.written new.written (output_text (replies limit script lacks))

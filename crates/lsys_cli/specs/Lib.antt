@@ -3,3 +3,13 @@ pub mod Ends
 pub mod Programs
 pub mod Runs
 pub mod Calls
+pub mod Words
+pub mod Values
+pub mod Fronts
+pub mod Parts
+pub mod Steps
+pub mod Views
+pub mod Motions
+pub mod Answers
+pub mod Growing
+pub mod DeskCalls

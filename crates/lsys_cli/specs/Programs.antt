@@ -6,8 +6,8 @@ use Rattle.lsys_spec.specs.Output.{output_text, any_memory, whole_lines}
 use Rattle.lsys_spec.specs.Samples.{sample}
 use Rattle.lsys_spec.specs.Costs.{Visits}
 use Rattle.lsys_spec.specs.LevelLaws.{candidate_visits}
-use Rattle.lsys_words.specs.Words.{options_by}
-use Rattle.lsys_words.specs.declared.Options.{Options}
+use Rattle.lsys_cli.specs.Words.{options_by}
+use Rattle.lsys_cli.specs.declared.options.Options.{Options}
 use Rattle.lsys_cli.specs.Ends.{OfScript, replies, script_front}
 use Rattle.lsys_cli.specs.declared.status.Status.{Status}
 use Rattle.lsys_cli.specs.declared.status.Status.TheVariants.{Done, Memory, TooLong}
@@ -53,7 +53,7 @@ pub record LacksLines (limit : ℕ) (written_old written_new : Option (List ℕ)
   pub written : Appends written_old written_new (output_text (replies limit (whole_lines bytes) lacks))
   pub memories : any_memory (replies limit (whole_lines bytes) lacks) ≡ true
 
--- The run is done, or want of memory was said: by the status, or by a reply, maybe to the `quit` behind which the script is too long.
+-- The run is done, or out of memory was said: by the status, or by a reply, maybe to the `quit` after which the script is too long.
 abbrev pub IsComplete : Status → ℕ → Option (List ℕ) → Option (List ℕ) → List ℕ → Type 0
 IsComplete status limit written_old written_new script =
     (status ≡ Done) ⊎ ((status ≡ Memory) ⊎ ((status ≡ TooLong) × LacksLines limit written_old written_new (script_front script)))

@@ -8,8 +8,8 @@ use Rattle.lsys_io.specs.declared.lines.LineRefusal.{LineRefusal}
 use Rattle.lsys_io.specs.declared.lines.LineRefusal.TheVariants as lines
 use Rattle.lsys_spec.specs.Refusals.{refused}
 use Rattle.lsys_spec.specs.Costs.{Visits}
-use Rattle.lsys_desks.specs.Desks.{Desk}
-use Rattle.lsys_desk.specs.Answers.{WasReplied, TellsLead, is_led, leads_to}
+use Rattle.lsys_history.specs.Desks.{Desk}
+use Rattle.lsys_cli.specs.Answers.{WasReplied, TellsLead, is_led, leads_to}
 use Rattle.lsys_session.specs.Answers.{Counters, WasCounted}
 use Rattle.lsys_session.specs.Requests.{refusal_line}
 use Rattle.lsys_session.specs.Sessions.{WasSaid}

@@ -1,36 +1,54 @@
 //! The program as a library: a run over a source and a sink.
 //!
 //! The words of the command line say which script is run, and under which module limit: the script that the source gives,
-//! or a sample. Each line of the script is answered before the next one is waited for, and the run ends with a status.
+//! or a sample. They consist of these options, each at most once and in either order: `--limit N` or the one word `--limit=N`,
+//! with N from 1 to 1,000,000; `--sample N` or the one word `--sample=N`, with N below 2^64. N is one to twenty digits, leading
+//! zeros allowed. Every other list of words is outside of the grammar.
+//!
+//! Each line of the script is answered at a desk before the next one is waited for, and the run ends with a status. A desk is a
+//! session with the systems that its edits led away from, and those that were undone. It answers the lines that ask something of
+//! it, `undo`, `redo`, `growth N`, `bounds` and `at N`, and hands every other line on to its session.
 #![tactic(auto)]
 
 ghost use Rattle.std.specs.Prelude.{◌≡◌, ◌≢◌, ◌↔◌, None};
-ghost use Rattle.lsys_words.specs.Words.{options_by, texts};
+ghost use Rattle.lsys_cli.specs.Words.{options_by, texts};
 ghost use Rattle.lsys_cli.specs.Programs.{OnSample, NamesNoSample};
 ghost use Rattle.lsys_io.specs.Calls.{HasRisen, HasStayed};
 ghost use Rattle.lsys_cli.specs.Calls.{TouchesNothing, IfDone, IfRefused, IfMemory, IfReadFault, IfWriteFault, IfTooLong, IfWell};
 
+mod desk;
+mod desk_line;
+mod growth_reply;
+mod kept_motions;
+mod options;
+mod picture_reply;
+mod reading;
 mod run;
+mod samples;
+mod sayings;
 mod script;
+mod setting;
 mod status;
+mod step;
 mod words;
 
 use lsys_io::{Sink, Source};
 use lsys_match::Steps;
 use lsys_pass::ForestDerivation;
-use lsys_words::options_of;
-pub use lsys_words::sample;
+pub use options::law_of_limits;
+use options::options_of;
+pub use samples::sample;
 use script::run_by;
 pub use status::Status;
 use std::alloc::Global;
 use std::sync::ledger::Ledger;
 pub use words::{status_without_words, words_behind_name};
 
-/// A desk over a forest: the one that a run answers its lines at.
-pub type Desk<L> = lsys_desk::Desk<L, ForestDerivation<L>>;
+/// A desk whose derivation stands in a forest: the one at which [`lsys`] answers the lines of a script.
+pub type Desk<L> = desk::Desk<L, ForestDerivation<L>>;
 
 /// Answers the lines of a script, from the opening system on: puts the reply to each of them into the sink, to the script's
-/// end or to a `quit` that is heeded, one that isn't refused for want of memory. `words` are the words behind the program's
+/// end or to a `quit` that is heeded, one that isn't refused as out of memory. `words` are the words after the program's
 /// name.
 ///
 /// The clauses on the script and on what was written say something where the source and the sink tell their bytes. The same
@@ -38,9 +56,9 @@ pub type Desk<L> = lsys_desk::Desk<L, ForestDerivation<L>>;
 ///
 /// `asked` counts the questions that are asked, `visited` the entries that are read for them. Over the lines whose replies
 /// were written both rise within the cost of these lines: by at least what their accepted edits need, and at most by that and
-/// the entries of the candidates' traces, and a bound by the limit for each refusal of levels or for want of memory.
+/// the entries of the candidates' traces, and a bound by the limit for each line that is refused for its levels or as out of memory.
 ///
-/// Each clause holds whatever ends are handed in, also those that fail at any later call. So nothing is read behind a heeded
+/// Each clause holds whatever ends are handed in, also those that fail at any later call. So nothing is read after a heeded
 /// `quit`: were that read to fail, no status could be answered.
 pub fn lsys<S: Source, K: Sink, L: Ledger, V: Ledger>(
     alloc: Global,
@@ -73,7 +91,7 @@ pub fn lsys<S: Source, K: Sink, L: Ledger, V: Ledger>(
     ensures no_write_fault_passed_over { result ≢ Status.WriteFault → HasStayed K.faults sink }
 
     // Where neither end failed, the script is within its length and nothing in its output is a refusal, the run is done, or
-    // want of memory was said.
+    // out of memory was said.
     ensures complete { IfWell words.now S.Source source K.Sink sink result }
 {
     match options_of(alloc, words) {

@@ -1,15 +1,16 @@
 //! The loop over the lines of a script.
 ghost use Rattle.std.specs.Prelude.{◌≡◌, [], ◌≢◌, ◌||◌, false, OnOk, OnErr};
 ghost use Rattle.lsys_io.specs.declared.lines.Stage.TheVariants.{Going};
-ghost use Rattle.lsys_desk.specs.Views.{desk_on};
-ghost use Rattle.lsys_desks.specs.Desks.{opening_desk};
+ghost use Rattle.lsys_cli.specs.Views.{desk_on};
+ghost use Rattle.lsys_history.specs.Desks.{opening_desk};
 ghost use Rattle.lsys_session.specs.Answers.{ends_session, refuses, lacks_memory};
 ghost use Rattle.lsys_cli.specs.Runs.{status_of, unread};
 ghost use Rattle.lsys_io.specs.Calls.{HasRisen, HasStayed};
 ghost use Rattle.lsys_cli.specs.Calls.{RunsAt, Heeds, CountsIt};
 
+use crate::desk::Desk;
+use crate::kept_motions::HasMotions;
 use crate::status::Status;
-use lsys_desk::{Desk, HasMotions};
 use lsys_io::{Buffered, Failed, LineRead, LineReader, LineRefusal, Sink, Source};
 use lsys_match::Steps;
 use lsys_rules::Refusal;
@@ -19,14 +20,14 @@ use std::sync::ledger::Ledger;
 
 /// Which kinds of refusal there were so far.
 #[derive(Clone, Copy)]
-pub struct Tally {
+pub(crate) struct Tally {
     refused: bool,
     memory: bool,
 }
 
 impl Tally {
     /// Before the first line.
-    pub fn new() -> Tally
+    pub(crate) fn new() -> Tally
         ensures refused { result.refused ≡ false }
         ensures memory { result.memory ≡ false }
     {
@@ -36,7 +37,7 @@ impl Tally {
         }
     }
 
-    /// With one more outcome.
+    // With one more outcome.
     fn with(self, outcome: Outcome) -> Tally
         ensures refused { result.refused ≡ self.refused || refuses outcome }
         ensures memory { result.memory ≡ self.memory || lacks_memory outcome }
@@ -48,7 +49,7 @@ impl Tally {
         }
     }
 
-    /// The status of a run that ends here.
+    // The status of a run that ends here.
     fn status(self) -> Status
         ensures { result ≡ status_of self.refused self.memory }
     {
@@ -63,7 +64,7 @@ impl Tally {
 }
 
 /// Answers the lines of the source to its end or to `quit`.
-pub fn run<S: Source, K: Sink, L: Ledger, V: Ledger, D: HasMotions<L> + Drop>(
+pub(crate) fn run<S: Source, K: Sink, L: Ledger, V: Ledger, D: HasMotions<L> + Drop>(
     alloc: Global,
     desk: &mut Desk<L, D>,
     reader: &mut LineReader,
@@ -119,7 +120,7 @@ fn ends_session(outcome: Outcome) -> bool
     outcome == Outcome::Quit
 }
 
-/// Answers a line that was read, and puts the reply.
+// Answers a line that was read, and puts the reply.
 fn answer_line<K: Sink, L: Ledger, V: Ledger, D: HasMotions<L> + Drop>(
     alloc: Global,
     desk: &mut Desk<L, D>,

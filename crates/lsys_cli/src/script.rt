@@ -1,22 +1,24 @@
 //! A run over a script: the one that is read, or a sample.
 ghost use Rattle.std.specs.Prelude.{◌≡◌, ◌≢◌, ◌≤◌, Some};
 ghost use Rattle.lsys_syntax.specs.Limits.{greatest_module_limit};
-ghost use Rattle.lsys_words.specs.Words.{HasLimit};
+ghost use Rattle.lsys_cli.specs.Words.{HasLimit};
 ghost use Rattle.lsys_cli.specs.Programs.{OfSample};
 ghost use Rattle.lsys_io.specs.Calls.{HasRisen, HasStayed};
 ghost use Rattle.lsys_cli.specs.Calls.{Runs, RunsBy, RunsSample};
 
+use crate::desk::Desk;
+use crate::kept_motions::HasMotions;
+use crate::options::Options;
 use crate::run::run;
+use crate::samples::sample;
 use crate::status::Status;
-use lsys_desk::{Desk, HasMotions};
 use lsys_io::{Buffered, LineReader, NeverSource, Sink, Source};
 use lsys_match::Steps;
-use lsys_words::{Options, sample};
 use std::alloc::Global;
 use std::sync::ledger::Ledger;
 
 /// Runs the script that the options name.
-pub fn run_by<S: Source, K: Sink, L: Ledger, V: Ledger, D: HasMotions<L> + Drop>(
+pub(crate) fn run_by<S: Source, K: Sink, L: Ledger, V: Ledger, D: HasMotions<L> + Drop>(
     alloc: Global,
     options: Options,
     source: &mut S,
@@ -46,7 +48,7 @@ pub fn run_by<S: Source, K: Sink, L: Ledger, V: Ledger, D: HasMotions<L> + Drop>
     }
 }
 
-/// Runs a sample.
+// Runs a sample.
 fn run_sample<K: Sink, L: Ledger, V: Ledger, D: HasMotions<L> + Drop>(
     alloc: Global,
     limit: u32,
@@ -69,7 +71,7 @@ fn run_sample<K: Sink, L: Ledger, V: Ledger, D: HasMotions<L> + Drop>(
     run_script::<NeverSource, K, L, V, D>(alloc, limit, &mut source, sink, asked, visited)
 }
 
-/// Runs what the source has left.
+// Runs what the source has left.
 fn run_script<S: Source, K: Sink, L: Ledger, V: Ledger, D: HasMotions<L> + Drop>(
     alloc: Global,
     limit: u32,

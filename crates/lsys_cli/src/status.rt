@@ -7,7 +7,7 @@ ghost use Rattle.lsys_cli.specs.Statuses.{exit_code};
 pub enum Status {
     /// The script was read to its end or to `quit`, and every command was accepted or printed.
     Done,
-    /// The same, but some reply is a refusal, and none is for want of memory.
+    /// The same, but some reply is a refusal, and none says out of memory.
     Refused,
     /// The words on the command line are wrong.
     Usage,
@@ -15,7 +15,7 @@ pub enum Status {
     ReadFault,
     /// The sink failed.
     WriteFault,
-    /// Some reply is a refusal for want of memory, or the run could not begin for it.
+    /// Some reply says out of memory, or the run could not begin for it.
     Memory,
     /// The script has more than 16,777,216 bytes.
     TooLong,

@@ -4,7 +4,7 @@ ghost use Rattle.std.specs.Prelude.{◌≡◌, ◌≢◌, drop};
 use crate::status::Status;
 use std::io::ErrorKind;
 
-/// The words behind the program's name, which comes first: all of them, in order, as they are. Where not even the name is there, there
+/// The words after the program's name, which comes first: all of them, in order, as they are. Where not even the name is there, there
 /// are none.
 pub fn words_behind_name(words: &[String]) -> &[String]
     ensures { result.now ≡ drop 1 words.now }
@@ -15,8 +15,8 @@ pub fn words_behind_name(words: &[String]) -> &[String]
     }
 }
 
-/// The status where the words of the command line can't be had, by the kind of the error: for want of memory, or since one of
-/// them isn't UTF-8, which makes them wrong.
+/// The status where the words of the command line can't be had, by the kind of the error: out of memory, or one of them
+/// isn't UTF-8, which makes them wrong.
 pub fn status_without_words(kind: ErrorKind) -> Status
     ensures memory { kind ≡ ErrorKind.OutOfMemory → result ≡ Status.Memory }
     ensures usage { kind ≢ ErrorKind.OutOfMemory → result ≡ Status.Usage }

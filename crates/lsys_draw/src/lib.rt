@@ -17,7 +17,7 @@ fn first_word(state: u64) -> u64
     generator.next_u64()
 }
 
-/// The word `n` words behind that of a state.
+/// The word `n` words after that of a state.
 fn word_behind(state: u64, n: u64) -> u64
     ensures { result ≡ word_past state n }
 {

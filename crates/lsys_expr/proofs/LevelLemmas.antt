@@ -15,7 +15,7 @@ inside-drop [] l (suc i) = grind (arith, nat_tests)
 inside-drop (x ∷ xs) l zero = grind (arith, nat_tests)
 inside-drop (x ∷ xs) l (suc i) = let one : nat_lt (suc i) (suc (length xs)) ≡ nat_lt i (length xs) = grind (arith, nat_tests) in one ∙ inside-drop xs l i
 
--- each level around the innermost one is behind a parenthesis
+-- each level around the innermost one is after a parenthesis
 outer-length : (ls : List Level) → length ls ≤ outer_nesting ls
 outer-length [] = omega arith
 outer-length (l ∷ ls) = let h : length ls ≤ outer_nesting ls = outer-length ls in omega (arith, h)

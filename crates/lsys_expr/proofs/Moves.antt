@@ -23,7 +23,7 @@ module _ (fs : List NameText) where
   pushed : (wrap : Tree → OperandFrame) (r q : Tree × List OperandFrame) → r ≡ q → ◌≡◌ {A = Option ExpressionReading} (Some (None, wrap r.0 ∷ r.1)) (Some (None, wrap q.0 ∷ q.1))
   pushed wrap r q e = ap (λ (x : Tree × List OperandFrame). Some (None, wrap x.0 ∷ x.1)) e
 
-  -- the state behind an operand, with its prefixes and powers
+  -- the state after an operand, with its prefixes and powers
   behind : (f : AfterUnary) (a : Atom) (k : InUnary) (r : Option ExpressionReading) → r ≡ Some (reading_of fs (after_unary f (unary_with fs (only_atom a) k) (around_unary fs k)))
       → r ≡ Some (reading_of fs (after_operand f (only_atom a) k))
   behind f a k r e = e ∙ sym (ap (λ s. Some (reading_of fs s)) (after_operand-is fs f (only_atom a) k))

@@ -40,7 +40,7 @@ prefix-seen (l ∷ ls) (m.Due k) t h (inl e) = subst (λ x. IsSeen Operand (with
 prefix-seen (l ∷ ls) (m.Due k) t h (inr e) = subst (λ x. IsSeen Operand (with_prefix (l ∷ ls)) (m.due_step x k)) (sym e) ((ap (λ n. n + 1) h.0.0, h.0.1), h.1)
 prefix-seen (l ∷ ls) s t h b = elim h [ ]
 
--- Behind an operand: its prefixes and powers end with it.
+-- After an operand: its prefixes and powers end with it.
 wrapped : Unary → m.InUnary → Unary
 wrapped u (m.negating k) = wrapped (negated u) k
 wrapped u (m.inverting k) = wrapped (inverted u) k
@@ -138,7 +138,7 @@ end-inside (l ∷ n ∷ ls) (m.Have a k) h i =
     w.1 ∙ ended-inside _ (parens_around k) n ls h.1
 end-inside (l ∷ n ∷ ls) s h i = elim h [ ]
 
--- Behind an operand, where the expression doesn't go on.
+-- After an operand, where the expression doesn't go on.
 pub compare-stops : (ls : List Level) (s : m.ExpressionState) (t : Kind) → IsSeen Operator ls s → FollowsAs follow.Comparison t → is_compared ls ≡ true → is_inside ls ≡ true → StopsThere s (m.step s t)
 compare-stops ls s t h e c i = stops-there s (m.step s t) (compare-again ls s t h e c) (end-inside ls s h i)
 
@@ -178,7 +178,7 @@ other-outside (l ∷ n ∷ ls) s t h e i = cc
 pub other-ends : (ls : List Level) (s : m.ExpressionState) (t : Kind) → IsSeen Operator ls s → FollowsAs follow.Other t → is_inside ls ≡ false → EndsThere s (m.step s t)
 other-ends ls s t h e i = done-ends s (m.step s t) (other-outside ls s t h e i)
 
--- Behind the first mark of two.
+-- After the first mark of two.
 and-mark : (t : Kind) → m.what_follows t ≡ m.and_step m.half_and → t ≡ Ampersand
 and-mark Ampersand e = refl
 and-mark t e = cc

@@ -63,13 +63,13 @@ pub second-taken : (n old : Scan) (o : Outcome) (s t : m.ExpressionState) (b : B
 second-taken n old o s t true y k f h i = next-taken n Operand old.levels old.levels o s t (y refl).0 (y refl).1 refl (h refl) f
 second-taken n old o s t false y k f h i = subst (λ p. IsTokenOutcome n.awaited n.levels p s t) (sym (k refl)) (i refl)
 
--- The expression doesn't go on behind an operand: inside of a parenthesis it is refused there.
+-- The expression doesn't go on after an operand: inside of a parenthesis it is refused there.
 pub ended-taken : (a : Awaited) (ls more : List Level) (o : Outcome) (s t : m.ExpressionState) (b : Bool) → is_inside ls ≡ b → (is_inside ls ≡ true → o ≡ Stops) → (is_inside ls ≡ false → o ≡ Ends)
     → (is_inside ls ≡ true → StopsThere s t) → (is_inside ls ≡ false → EndsThere s t) → IsTokenOutcome a more o s t
 ended-taken a ls more o s t true q y k h i = subst (λ p. IsTokenOutcome a more p s t) (sym (y q)) (h q)
 ended-taken a ls more o s t false q y k h i = subst (λ p. IsTokenOutcome a more p s t) (sym (k q)) (i q)
 
--- the end of the tokens behind an operand
+-- the end of the tokens after an operand
 pub whole-ended : (ls : List Level) (s : m.ExpressionState) (b : Bool) → b ≡ is_inside ls → IsSeen Operator ls s → IsEnded (not b) (m.end_step s)
 whole-ended ls s true e h = end-inside ls s h (sym e)
 whole-ended ls s false e h = end-whole ls s h (sym e)

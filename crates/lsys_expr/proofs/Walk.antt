@@ -101,7 +101,7 @@ placed-so n ks r g h = placed n ks (extent ks) r g refl h
 abbrev kind_in : TextToken → Kind
 kind_in u = kind_of u.kind
 
--- The token with the number i behind the first n, as the loop reads it.
+-- The token with the number i after the first n, as the loop reads it.
 pub token-next : (ts items : List TextToken) (n i : ℕ) (t : TextToken) → items ≡ drop n ts → i < length items → t ≡ get_or items i t
     → drop i (drop n (kind_row ts)) ≡ kind_of t.kind ∷ drop (i + 1) (drop n (kind_row ts))
 token-next ts items n i t e h g =

@@ -48,7 +48,7 @@ abbrev pub reduced : ℕ → Tree → List OperandFrame → Tree × List Operand
 reduced least t [] = (t, [])
 reduced least t (f ∷ fs) = if nat_le least (strength f) then reduced least (enclosed f t) fs else (t, f ∷ fs)
 
--- what may stand behind an operand
+-- what may stand after an operand
 pub data Follower : Type 0 where
   operator : Operator → Follower
   half_and : Follower
@@ -82,7 +82,7 @@ abbrev pub without_parentheses : Tree → List OperandFrame → Option Expressio
 without_parentheses t (parentheses ∷ fs) = Some (Some t, fs)
 without_parentheses t fs = None
 
--- the reading behind a token, where an operand was read
+-- the reading after a token, where an operand was read
 abbrev pub behind_operand : Option Follower → Tree → List OperandFrame → Option ExpressionReading
 behind_operand None t fs = None
 behind_operand (Some (operator op)) t fs = Some (None, binary op (reduced (left_strength op) t fs).0 ∷ (reduced (left_strength op) t fs).1)
@@ -90,7 +90,7 @@ behind_operand (Some half_and) t fs = Some (None, both (reduced 2 t fs).0 ∷ (r
 behind_operand (Some half_or) t fs = Some (None, either (reduced 1 t fs).0 ∷ (reduced 1 t fs).1)
 behind_operand (Some closing) t fs = without_parentheses (reduced 1 t fs).0 (reduced 1 t fs).1
 
--- The reading behind a token, where an operand is due. The second half of && and || changes nothing.
+-- The reading after a token, where an operand is due. The second half of && and || changes nothing.
 abbrev pub with_operand : List NameText → Kind → List OperandFrame → Option ExpressionReading
 with_operand formals (Number n) fs = Some (Some (Constant n), fs)
 with_operand formals (Name x) fs = Some (Some (Formal (formal_place formals x)), fs)
@@ -101,7 +101,7 @@ with_operand formals Ampersand fs = Some (None, fs)
 with_operand formals Bar fs = Some (None, fs)
 with_operand formals k fs = None
 
--- the reading behind a token
+-- the reading after a token
 abbrev pub next_reading : List NameText → Kind → Option Tree → List OperandFrame → Option ExpressionReading
 next_reading formals k None fs = with_operand formals k fs
 next_reading formals k (Some t) fs = behind_operand (follower k) t fs

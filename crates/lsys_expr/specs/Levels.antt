@@ -26,12 +26,12 @@ abbrev pub shallow : List Level → List Level
 shallow [] = []
 shallow (l ∷ ls) = record { prefixes = 0; compared = l.compared } ∷ ls
 
--- behind a comparison
+-- after a comparison
 abbrev pub comparing : List Level → List Level
 comparing [] = []
 comparing (l ∷ ls) = record { prefixes = 0; compared = true } ∷ ls
 
--- behind `&&` or `||`
+-- after `&&` or `||`
 abbrev pub cleared : List Level → List Level
 cleared [] = []
 cleared (l ∷ ls) = fresh ∷ ls

@@ -22,23 +22,23 @@ spelled_tree formals kinds = meaning.expr_tree (names_of formals) (expression_sp
 abbrev pub reading_of : Option Tree → List Frame → ExpressionReading
 reading_of operand frames = (option_map tree_of operand, frames_of frames)
 
--- the reading behind a token
+-- the reading after a token
 abbrev pub reading_behind : List (List ℕ) → TokenKind → Option Tree → List Frame → Option ExpressionReading
 reading_behind formals kind operand frames =
     next_reading (names_of formals) (small (kind_of kind)) (option_map tree_of operand)
     (frames_of frames)
 
--- the reading behind a token where an operand is due
+-- the reading after a token where an operand is due
 abbrev pub operand_reading : List (List ℕ) → TokenKind → List Frame → Option ExpressionReading
 operand_reading formals kind frames =
     with_operand (names_of formals) (small (kind_of kind)) (frames_of frames)
 
--- the reading behind a token where an operand was read
+-- the reading after a token where an operand was read
 abbrev pub follower_reading : TokenKind → Tree → List Frame → Option ExpressionReading
 follower_reading kind operand frames =
     behind_operand (follower (small (kind_of kind))) (tree_of operand) (frames_of frames)
 
--- the code's reading behind a token is that of the definitions
+-- the code's reading after a token is that of the definitions
 abbrev pub IsReadBehind : List (List ℕ) → TokenKind → Option Tree → List Frame → List Frame
     → Option Tree → Type 0
 IsReadBehind formals kind operand old new read =

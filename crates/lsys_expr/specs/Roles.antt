@@ -15,7 +15,7 @@ BeginsAs Parenthesis t = (k : machine.InUnary) → machine.due_step t k ≡ mach
 BeginsAs Prefix t = (t ≡ Minus) ⊎ (t ≡ Bang)
 BeginsAs Nothing t = (k : machine.InUnary) → machine.due_step t k ≡ machine.Stop
 
--- behind an operand
+-- after an operand
 abbrev pub FollowsAs : Follow → Kind → Type 0
 FollowsAs Power t = machine.what_follows t ≡ machine.powering
 FollowsAs Product t = (op : TermOp) × (machine.what_follows t ≡ machine.ends_unary (machine.more_term op))

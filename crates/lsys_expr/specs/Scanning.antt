@@ -81,7 +81,7 @@ IsOpened old a new Goes = (a ≡ Operand) × (new ≡ with_prefix old) × (inner
 IsOpened old a new TooDeep = inner_nesting old ≡ 32
 IsOpened old a new o = ⊥
 
--- what the state behind the last token is
+-- what the state after the last token is
 abbrev pub IsEnded : Bool → machine.ExpressionState → Type 0
 IsEnded true s = (e : Expr) × (s ≡ machine.Done e)
 IsEnded false s = s ≡ machine.Stop

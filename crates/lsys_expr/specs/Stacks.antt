@@ -20,7 +20,7 @@ frame_of Parentheses = reading.parentheses
 abbrev pub frames_of : List Frame → List reading.OperandFrame
 frames_of items = reverse (map frame_of items)
 
--- what may stand behind an operand, as the code says it
+-- what may stand after an operand, as the code says it
 abbrev pub follower_of : Follower → reading.Follower
 follower_of (Operator op) = reading.operator (operator_of op)
 follower_of And = reading.half_and

@@ -23,7 +23,7 @@ use std::alloc::{AllocError, Global};
 ///
 /// # Errors
 ///
-/// Want of memory alone.
+/// Out of memory alone.
 pub fn build_expr(
     alloc: Global,
     tokens: &[Token],
@@ -127,7 +127,7 @@ fn begin_frame(byte: u8, frames: &mut Vec<Frame>) -> Result<(), AllocError>
     }
 }
 
-// A token behind an operand: an operator takes its left side, and `)` closes its parentheses.
+// A token after an operand: an operator takes its left side, and `)` closes its parentheses.
 fn read_follower(
     alloc: Global,
     kind: TokenKind,

@@ -36,7 +36,7 @@ pub(crate) enum Frame {
     Parentheses,
 }
 
-/// What may stand behind an operand.
+/// What may stand after an operand.
 #[derive(Clone, Copy, PartialEq, Eq, Debug)]
 pub(crate) enum Follower {
     Operator(Operator),
@@ -80,7 +80,7 @@ impl Frame {
     }
 }
 
-/// What the token behind an operand is to it.
+/// What the token after an operand is to it.
 pub(crate) fn what_follows(kind: TokenKind) -> Option<Follower>
     ensures { option_map follower_of result ≡ follower (kind_of kind) }
 {

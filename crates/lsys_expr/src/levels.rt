@@ -7,7 +7,7 @@ use std::marker::Model;
 /// How many of `(`, prefix `-`, prefix `!` and `^` may be open at once.
 pub(crate) const MOST_OPEN: u8 = 32;
 
-/// What was read behind a parenthesis, or from the start, of what isn't closed yet.
+/// What was read after a parenthesis, or from the start, of what isn't closed yet.
 #[derive(Clone, Copy)]
 pub(crate) struct Level {
     /// How many of prefix `-`, prefix `!` and `^` wait for the end of their operand.

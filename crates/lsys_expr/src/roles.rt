@@ -19,7 +19,7 @@ pub(crate) enum Begin {
     Nothing,
 }
 
-/// What a token does behind an operand.
+/// What a token does after an operand.
 #[derive(Clone, Copy)]
 pub(crate) enum Follow {
     Power,
@@ -56,7 +56,7 @@ fn mark_begin(byte: u8) -> Begin
     }
 }
 
-/// What a token does behind an operand.
+/// What a token does after an operand.
 pub(crate) fn follow_of(kind: TokenKind) -> Follow
     ensures { FollowsAs result (small (kind_of kind)) }
 {

@@ -123,7 +123,7 @@ impl Scan {
         }
     }
 
-    // Goes on behind an operand.
+    // Goes on after an operand.
     fn follow(&mut self, follow: Follow) -> Outcome
         requires { self.old.awaited ≡ Awaited.Operator }
         ensures { GoesOnWith (FollowsAs follow) self.old self.new result }
@@ -156,7 +156,7 @@ impl Scan {
         }
     }
 
-    // Does not go on behind an operand.
+    // Does not go on after an operand.
     fn end(&self) -> Outcome
         ensures inside { is_inside self.now.levels ≡ true → result ≡ Outcome.Stops }
         ensures outside { is_inside self.now.levels ≡ false → result ≡ Outcome.Ends }
@@ -168,7 +168,7 @@ impl Scan {
         }
     }
 
-    // Goes on behind the first `&` or `|` of two.
+    // Goes on after the first `&` or `|` of two.
     fn second(&mut self, is_second: bool) -> Outcome
         ensures yes { is_second ≡ true → GoesToOperand self.old self.new result }
         ensures none { is_second ≡ false → result ≡ Outcome.Stops }

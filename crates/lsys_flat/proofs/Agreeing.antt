@@ -60,7 +60,7 @@ IsOld old d = (o : Tagged) × In o old × Same o d × (o.tag ≡ d.tag)
 abbrev pub IsFresh : List Tagged → List Bool → ℕ → Tagged → Type 0
 IsFresh old marks from d = (in_use marks d.tag ≡ false) × (from ≤ d.tag) × ((o : Tagged) → In o old → Same o d → ⊥)
 
--- the new symbols in order, each apart from those behind it
+-- the new symbols in order, each apart from those after it
 abbrev pub Chain : List Tagged → List Bool → ℕ → List Tagged → Type 0
 Chain old marks from [] = Unit {0}
 Chain old marks from (d ∷ ds) = Each (λ e. Same d e → ⊥) ds × ((IsOld old d × Chain old marks from ds) ⊎ (IsFresh old marks from d × Chain old marks (d.tag + 1) ds))
@@ -91,7 +91,7 @@ old_new old marks least h u o d i (inr c) =
 like_old : (old : List Tagged) (o d e : Tagged) → Same o d → o.tag ≡ d.tag → Agree o e → Agree d e
 like_old old o d e s t a = (λ k. let r = a.0 (t ∙ k) in (sym s.0 ∙ r.0, sym s.1 ∙ r.1), λ r. sym t ∙ a.1 (s.0 ∙ r.0, s.1 ∙ r.1))
 
--- a new one and one behind it
+-- a new one and one after it
 new_later : (old : List Tagged) (marks : List Bool) (from : ℕ) → AgreeAll old old → Each (λ a. in_use marks a.tag ≡ true) old → (d e : Tagged) → IsFresh old marks from d → (Same d e → ⊥)
     → IsOld old e ⊎ IsFresh old marks (d.tag + 1) e → Agree d e
 new_later old marks from h u d e f n (inl c) = agree_sym e d (like_old old c.0 e d c.2 c.3 (old_new old marks from h u c.0 d c.1 (inr f)))
@@ -175,7 +175,7 @@ distinct_at [] t h = tt
 distinct_at (x ∷ xs) zero h = h.0
 distinct_at (x ∷ xs) (suc t) h = distinct_at xs t h.1
 
--- a symbol is apart from those behind it
+-- a symbol is apart from those after it
 apart_level : (t : ℕ) (a : List ℕ) (k : ℕ) (y : List LevelSymbol) (ks : List ℕ) → WithAll Unlike a y → Each (λ e. Same (record { level = t; line = a; tag = k }) e → ⊥) (tagged t y ks)
 apart_level t a k [] ks h = tt
 apart_level t a k (s ∷ y) [] h = tt

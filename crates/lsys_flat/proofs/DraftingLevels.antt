@@ -1,4 +1,4 @@
--- The next level fits behind those so far.
+-- The next level fits after those so far.
 use Rattle.std.proofs.Common.{◌≡◌, ℕ, zero, suc, ◌+◌, ◌≤◌, false, Some, Result, Ok, List, [], ◌∷◌, ◌++◌, length, map, get_or, refl, sym, ap, ◌∙◌, arith, add-one}
 use Rattle.std.specs.Prelude.{slice_get, sum_by, nat_lt}
 use Rattle.std.proofs.lemmas.Bool.Decides.{nat_tests}

@@ -107,7 +107,7 @@ module _ (s : System) (limit : ℕ) (xs : List (List LevelSymbol)) (old_lines : 
   last_here : last_level h.ys ≡ get_or h.ys t []
   last_here = last_is h.ys t h.levels
 
-  -- a fault of the last level, or want of memory
+  -- a fault of the last level, or lack of memory
   pub round_refused : (w : ℕ) (e : DeriveRefusal) → t < s.depth → IsNoRound s t (get_or h.ys t []) v w e → IsLevelRefusal s limit e × Rises 0 (most_read * limit) before w
   round_refused w (refusals.Fault k u n) below r =
       let there : next_level s t (last_level h.ys) ≡ Err (FaultAt (fault_of k) t n) = ap (next_level s t) last_here ∙ r.1 in

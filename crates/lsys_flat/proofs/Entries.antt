@@ -30,7 +30,7 @@ first s t x p (Pop l) rest = omega arith
 first s t x p (Module l m) rest =
     let bs = group s t m.name (length m.params) in one_more bs (question s t bs x p l m) (questions_from s t x (p + 1) rest)
 
--- the entries from place p on are those of the question there and those behind it
+-- the entries from place p on are those of the question there and those after it
 pub entries_here : (s : System) (t : ℕ) (x : List LevelSymbol) (p : ℕ) (a : LevelSymbol) → slice_get x p ≡ Some a
     → entries_of (questions_from s t x p (drop p x)) ≡ entries_if (question_here s t x p a) + entries_of (questions_from s t x (p + 1) (drop (p + 1) x))
 entries_here s t x p a e = ap (λ rest. entries_of (questions_from s t x p rest)) (drop_there x p a e) ∙ first s t x p a (drop (p + 1) x)

@@ -99,7 +99,7 @@ at_push [] s (suc p) a e = let no : None ≡ Some a = e in cc
 at_push (f ∷ front) s zero a e = inl (0, e)
 at_push (f ∷ front) s (suc p) a e = elim (at_push front s p a e) [ inl h ↦ inl (suc h.0, h.1) | inr g ↦ inr g ]
 
--- the front of a level, and the answer behind it
+-- the front of a level, and the answer after it
 pub record IsFront (slots front : List (Option Kept)) : Type 0 where
   pub same : (p : ℕ) → p < length front → get_or front p None ≡ get_or slots p None
 

@@ -2,7 +2,7 @@
 use Rattle.std.proofs.Common.{◌≡◌, ℕ, ◌+◌, ◌<◌, List, [], ◌∷◌, ◌++◌, length, map, get_or, refl, sym, ap, ◌∙◌, arith, append_assoc}
 use Rattle.std.proofs.lemmas.List.{get_or_append_left, get_or_at, map-append, length-map, append-nil}
 
--- what is behind, what is ahead, and how much that is
+-- what is after, what is ahead, and how much that is
 pub record Walk {A : Type 0} (all front rest : List A) (len : ℕ) : Type 0 where
   pub whole : front ++ rest ≡ all
   pub count : len ≡ length rest

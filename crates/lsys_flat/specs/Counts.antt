@@ -12,7 +12,7 @@ use Rattle.lsys_reading.specs.declared.parts.Lineage.TheVariants as code
 use Rattle.lsys_flat.specs.declared.origin.Origin.{Origin}
 use Rattle.lsys_flat.specs.declared.numbers.Numbers.{Numbers}
 
--- the child with this code, behind n children with these codes
+-- the child with this code, after n children with these codes
 abbrev pub origin_at : Numbering → ℕ → ℕ → List ℕ → ℕ → Origin
 origin_at by_place parent n before code = record { parent = parent; code = 0; count = n }
 origin_at by_name parent n before code = record { parent = parent; code = code; count = count_by (λ c. c == code) before }
@@ -32,6 +32,6 @@ abbrev pub IsNextOrigin : Numbers → ℕ → Symbol → Origin → Type 0
 IsNextOrigin a parent child origin =
     (n : ℕ) (before : List ℕ) → HasNumbered n before a → origin ≡ origin_at (numbering_of a.numbering) parent n before (code_of (symbol_of child))
 
--- it is counted behind the others
+-- it is counted after the others
 abbrev pub CountsChild : Symbol → Numbers → Numbers → Type 0
 CountsChild child old new = (n : ℕ) (before : List ℕ) → HasNumbered n before old → HasNumbered (n + 1) (code_of (symbol_of child) ∷ before) new

@@ -85,7 +85,7 @@ pub record CanComplete (old_lines : List Descent) (kept : List (List (Option Kep
   pub olds : AreOlds limit (olds_from xs old_lines kept store)
   pub empty : IsEmpty limit old_lines d
 
--- the next level was added behind the others
+-- the next level was added after the others
 pub record IsLonger (level : Level) (old new : Drafted) : Type 0 where
   pub is : new ≡ record old { revised = new.revised; room = new.room }
   pub room : new.room + length level.symbols ≡ old.room
@@ -101,7 +101,7 @@ IsLevelAdded t None old new (Err e) = e ≡ refusals.Limit t
 IsLevelAdded t (Some level) old new (Ok done) = IsLonger level old new
 IsLevelAdded t (Some level) old new (Err e) = e ≡ refusals.Memory
 
--- there is room for the next level, and it fits behind the others
+-- there is room for the next level, and it fits after the others
 abbrev pub CanAddNext : Drafted → Option Level → Type 0
 CanAddNext d None = Unit {0}
 CanAddNext d (Some level) = CanAddLevel d.revised level × (length level.symbols ≤ d.room)
@@ -138,7 +138,7 @@ pub record CanGoOn (s : System) (limit : ℕ) (old_lines : List Descent) (kept :
   pub draft : IsDraft s limit (olds_from xs old_lines kept begin) store before after t d
   pub found : HasAskedLevels t d
 
--- What was found out about level t is kept behind that of the levels before; and what was made of its children.
+-- What was found out about level t is kept after that of the levels before; and what was made of its children.
 pub record HasAsked {A : Type 0} (s : System) (t : ℕ) (kept : List (Option Kept)) (before after : Store) (visited_old visited_new asked_old asked_new : ℕ) (old new : Drafted) (done : Result A DeriveRefusal) (next : Option Level) : Type 0 where
   pub rounded : Rounded
   pub is : new ≡ record old { fresh = set old.fresh t rounded.fresh; taken = set old.taken t rounded.taken; asked = old.asked + filled_slots rounded.fresh; all = old.all + rounded.questions }

@@ -55,7 +55,7 @@ with_child o key s g =
     let behind = record g { cutting = cutting_behind g.cutting (symbol_of s) } in
     if g.fits then (if symbol_stays g.cutting (symbol_of s) then where_room o key s behind else behind) else g
 
--- children more of the symbol at a place, behind n of them that have these codes
+-- children more of the symbol at a place, after n of them that have these codes
 abbrev pub with_children : Numbering → ℕ → ℕ → ℕ → List ℕ → List Symbol → Grown → Grown
 with_children g parent key n before [] made = made
 with_children g parent key n before (s ∷ ss) made =
@@ -63,7 +63,7 @@ with_children g parent key n before (s ∷ ss) made =
 
 -- 2. by the definitions
 
--- behind these symbols, whether a branch is being cut off and how many others are open in it
+-- after these symbols, whether a branch is being cut off and how many others are open in it
 abbrev pub cutting_behind_all : Option ℕ → List Raw → Option ℕ
 cutting_behind_all o [] = o
 cutting_behind_all o (r ∷ x) = cutting_behind_all (cutting_behind o (raw_plain r)) x

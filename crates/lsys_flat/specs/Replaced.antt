@@ -48,7 +48,7 @@ found_news (Ok Same) = 0
 found_news (Ok Stays) = 0
 found_news (Err e) = 0
 
--- It is told that there is no question exactly where there is none, and else as many entries were read as the question's trace has; no more for want of memory.
+-- It is told that there is no question exactly where there is none, and else as many entries were read as the question's trace has; no more for lack of memory.
 abbrev pub IsAsked : {L : Type 0} → Option Question → ℕ → ℕ → Result (Found L) AskRefusal → Type 0
 IsAsked None old new (Ok Stays) = new ≡ old
 IsAsked None old new (Ok Same) = ⊥

@@ -99,7 +99,7 @@ pub record AreNamedBeside (old : Descent) (origins : List Origin) (before after 
 abbrev pub NamesBeside : Descent → List Origin → Lent Revised → List ℕ → Type 0
 NamesBeside old origins r tags = AreNamedBeside old origins r.entry.now r.exit.now tags
 
--- a level with these tags is kept behind those that are there
+-- a level with these tags is kept after those that are there
 abbrev pub with_next_level : Level → List ℕ → Revised → Revised
 with_next_level level tags r = record r {
   view = r.view ++ spots_of level.symbols tags level.keys.items ∷ [];

@@ -66,7 +66,7 @@ impl Made {
     ///
     /// # Errors
     ///
-    /// Want of memory. What was made is of no use then.
+    /// Out of memory. What was made is of no use then.
     pub(crate) fn add_children(
         &mut self,
         numbers: &mut Numbers,

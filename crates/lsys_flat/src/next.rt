@@ -13,7 +13,7 @@ use lsys_reading::Lineage;
 use std::alloc::{AllocError, Global};
 use std::marker::Model;
 
-/// The level behind a level, as far as the symbols of this one were replaced.
+/// The level after a level, as far as the symbols of this one were replaced.
 #[derive(Drop)]
 pub struct NextLevel {
     numbers: Numbers,
@@ -47,7 +47,7 @@ impl NextLevel {
     ///
     /// # Errors
     ///
-    /// Want of memory. The level is of no use then.
+    /// Out of memory. The level is of no use then.
     pub fn add_children(&mut self, key: u64, successor: &[Symbol]) -> Result<(), AllocError>
         requires parents { self.old.grown.parents + 1 < 2 ^ 32 }
         requires few { length successor.now ≤ number_base }

@@ -17,7 +17,7 @@ pub(crate) struct Placed {
 /// Where the symbols of an old level stand, by their origins.
 #[derive(Drop)]
 pub(crate) struct Places {
-    // behind the last one that was found
+    // after the last one that was found
     next: usize,
     // in the order of their origins, once one was looked for that doesn't stand there
     pub(crate) sorted: Vec<Placed>,
@@ -34,7 +34,7 @@ impl Places {
         }
     }
 
-    /// The place of the old symbol of an origin: the one behind the last that was found, or else by halves.
+    /// The place of the old symbol of an origin: the one after the last that was found, or else by halves.
     pub(crate) fn find(
         &mut self,
         alloc: Global,

@@ -49,7 +49,7 @@ impl<'a> Revision<'a> {
     ///
     /// # Errors
     ///
-    /// Want of memory.
+    /// Out of memory.
     pub fn new(alloc: Global, olds: &'a [Ancestry]) -> Result<Revision<'a>, AllocError>
         ensures begun { IfOk result (IsBegunBeside (map line_of olds.now)) }
         ensures olds { IfOk result (λ r. r.old_lines ≡ map line_of olds.now) }
@@ -74,7 +74,7 @@ impl<'a> Revision<'a> {
     ///
     /// # Errors
     ///
-    /// Want of memory. The revision is of no use then.
+    /// Out of memory. The revision is of no use then.
     pub fn add_level(&mut self, level: Level) -> Result<(), AllocError>
         requires { CanAdd self.old level }
         ensures added { OnOk result (GrowsByLevel level self.old self.new) }

@@ -83,7 +83,7 @@ impl<L: Ledger> Round<L> {
     ///
     /// # Errors
     ///
-    /// The leftmost module with a fault, or want of memory. The new answers so far are still to be released.
+    /// The leftmost module with a fault, or lack of memory. The new answers so far are still to be released.
     pub fn ask_level<V: Ledger>(
         &mut self,
         alloc: Global,

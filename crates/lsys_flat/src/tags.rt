@@ -40,7 +40,7 @@ impl TagSupply {
     ///
     /// # Errors
     ///
-    /// Want of memory. The same tags are in use then.
+    /// Out of memory. The same tags are in use then.
     pub fn mark(&mut self, tag: Tag) -> Result<(), AllocError>
         ensures marked { OnOk result (MarksTag tag self.old self.new) }
         ensures refused { OnErr result (KeepsMarks self.old self.new) }
@@ -57,7 +57,7 @@ impl TagSupply {
     ///
     /// # Errors
     ///
-    /// Want of memory. Some of the tags are marked then.
+    /// Out of memory. Some of the tags are marked then.
     pub fn mark_all(&mut self, tags: &[Tag]) -> Result<(), AllocError>
         ensures { OnOk result (MarksAll tags.now self.old self.new) }
     {
@@ -72,7 +72,7 @@ impl TagSupply {
     ///
     /// # Errors
     ///
-    /// Want of memory. The same tags are in use then.
+    /// Out of memory. The same tags are in use then.
     pub fn name_level(
         &mut self,
         alloc: Global,

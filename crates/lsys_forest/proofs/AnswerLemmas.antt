@@ -189,7 +189,7 @@ module _ {A : Type 0} where
       ]
       clash (AtChange i) b is same = node_change k i (sym same)
 
-  -- one step behind another, of which one loses nothing
+  -- one step after another, of which one loses nothing
   pub step_then : (old mid new : AnswerKeeper → Option A) (gone : Option A) → IsStep old mid None → IsStep mid new gone → IsStep old new gone
   step_then old mid new gone one two = record {
     from = λ h. one.from (two.from h);

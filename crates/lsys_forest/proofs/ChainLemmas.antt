@@ -19,7 +19,7 @@ head_is xs ys x y e = grind (arith, e)
 tail_is : (xs ys : List ℕ) (x y : ℕ) → x ∷ xs ≡ y ∷ ys → xs ≡ ys
 tail_is xs ys x y e = grind (arith, e)
 
--- what stands behind a node of a row, to which one is added
+-- what stands after a node of a row, to which one is added
 pub push_split : (row : List ℕ) (kid : ℕ) (b : List ℕ) (k : ℕ) (a : List ℕ) → AreApart (row ++ kid ∷ []) → k ≢ kid → row ++ kid ∷ [] ≡ b ++ k ∷ a → (rest : List ℕ) × (row ≡ b ++ k ∷ rest) × (a ≡ rest ++ kid ∷ [])
 push_split row kid b k a apart ne whole =
     let s = In_split k row (among (In_append row (kid ∷ []) k (subst (In k) (sym whole) (In_right k b (k ∷ a) (inl refl))))) in
@@ -32,7 +32,7 @@ push_split row kid b k a apart ne whole =
     among (inr (inl e)) = absurd (ne e)
     among (inr (inr none)) = absurd none
 
--- the last of a row has nothing behind it
+-- the last of a row has nothing after it
 last_ends : (row b a : List ℕ) (k : ℕ) → AreApart row → first_in (mirrored row) ≡ Some k → row ≡ b ++ k ∷ a → a ≡ []
 last_ends row b a k apart is whole =
     let s = first_split (mirrored row) k is in

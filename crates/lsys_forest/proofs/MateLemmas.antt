@@ -56,7 +56,7 @@ none_closes (L.Pop l ∷ x) zero j b le = absurd (grind (arith, b))
 none_closes (L.Pop l ∷ x) (suc n) zero b le = absurd (omega (arith, le))
 none_closes (L.Pop l ∷ x) (suc n) (suc j) b le = ap (option_map (λ q. q + 1)) (none_closes x n j b (omega (arith, le)))
 
--- a balanced level is balanced behind each front, where some branches are open
+-- a balanced level is balanced after each front, where some branches are open
 behind_front : (x y : List L.LevelSymbol) (n : ℕ) → level_balanced n (x ++ y) ≡ true → (k : ℕ) × (level_balanced k y ≡ true)
 behind_front [] y n b = (n, b)
 behind_front (L.Module l m ∷ x) y n b = behind_front x y n b
@@ -265,7 +265,7 @@ module _ {A : Type 0} where
     count = counted way m w.after node inside still w.between q w.ahead n kind params is seen e w.count;
   }
 
-  -- a bracket that begins a branch, and what closes it behind
+  -- a bracket that begins a branch, and what closes it after
   mates_by : (naming : ℕ → List ℕ) (m : Nodes A) (level before after : List ℕ) (o : ℕ) (n : Node A) (gap : ℕ) (p q : ℕ) → level ≡ before ++ o ∷ after → m o ≡ Some n → n.seen ≡ Push → close_of 0 (seen_level naming m after) ≡ Some gap → p ≡ length before → q ≡ p + 1 + gap → AreMates (seen_level naming m level) p q
   mates_by naming m level before after o n gap p q whole is push closed pe qe =
       let x : seen_level naming m level ≡ seen_level naming m before ++ L.Push (naming o) ∷ seen_level naming m after =

@@ -63,7 +63,7 @@ module _ {A : Type 0} where
   told_step k l lines sort.Answer values more [] more' rec p q = absurd (omega (arith, q))
   told_step k l lines sort.Answer values more (a ∷ answers) more' rec p q = ap (λ (ns : List (Note A)). record { node = k; was = was.Answer (Some a) } ∷ ns) (rec values answers (omega (arith, p)) (omega (arith, q)))
 
-  -- the value and the answer of one line more stand behind those of the others
+  -- the value and the answer of one line more stand after those of the others
   told_more : (lines : List Line) (l : Line) (values more : List Value) (answers more' : List A) → length values ≡ values_taken lines → length answers ≡ answers_taken lines → notes_told (lines ++ l ∷ []) (values ++ more) (answers ++ more') ≡ notes_told lines values answers ++ notes_told (l ∷ []) more more'
   told_more [] l [] more [] more' p q = refl
   told_more [] l (v ∷ values) more answers more' p q = absurd (omega (arith, p))

@@ -21,7 +21,7 @@ use Rattle.lsys_forest.proofs.RowLemmas.{In_right, same_sides, apart_parts, orie
 use Rattle.lsys_forest.proofs.WalkLemmas.{mirrored_push, mirrored_twice, mirrored_around}
 use Rattle.lsys_forest.proofs.ChainLemmas.{push_split}
 
--- 1. how many branches are open behind a row
+-- 1. how many branches are open after a row
 
 abbrev goes_on : Option ℕ → (ℕ → Option ℕ) → Option ℕ
 goes_on None f = None
@@ -40,7 +40,7 @@ run_append way seen n (q ∷ xs) ys = go (turned way (seen q) n) (λ k. run_appe
     go None on = refl
     go (Some k) on = on k
 
--- where it goes on, the end comes behind it
+-- where it goes on, the end comes after it
 end_on : (way : Way) (seen : ℕ → Seen) (n : ℕ) (xs ys : List ℕ) (k : ℕ) → run_of way seen n xs ≡ Some k → end_of way seen n (xs ++ ys) ≡ end_of way seen k ys
 end_on way seen n [] ys k e = ap (λ i. end_of way seen i ys) (same_Some n k e)
 end_on way seen n (q ∷ xs) ys k e = go (turned way (seen q) n) e (λ i f. end_on way seen i xs ys k f)
@@ -191,7 +191,7 @@ pairing_start seen footings = record {
 some_not : (o : Option ℕ) (q : ℕ) → o ≡ Some q → o ≡ None → ⊥
 some_not o q some none = none-some q (sym none ∙ some)
 
--- what is open behind it
+-- what is open after it
 open_on : (seen : ℕ → Seen) (passed : List ℕ) (old : List Footing) (opener : Option ℕ) (node : ℕ) (s : Seen) → seen node ≡ s → IsPairing seen passed old opener → still_open s old opener node ≡ end_of Left seen 0 (node ∷ mirrored passed)
 open_on seen passed old opener node Push is was = sym (ap (λ s. ends_or (turned Left s 0) node (λ i. end_of Left seen i (mirrored passed))) is)
 open_on seen passed old opener node (Module v) is was = was.open_is ∙ sym (ap (λ s. ends_or (turned Left s 0) node (λ i. end_of Left seen i (mirrored passed))) is)

@@ -108,7 +108,7 @@ module _ {A : Type 0} where
         let two = In_at l (kids_in (m (parent_in (m l)))) (among (suc t) l g) in
         across (λ j. kids_in (m j)) (level_nodes m root t) (parent_in (m k)) (parent_in (m l)) one.0 two.0 k l (level_apart root changes m sound t) (level_apart root changes m sound (suc t)) (above t k h) (above t l g) ne one.1 two.1
 
--- who stands right behind another one comes after it
+-- who stands right after another one comes after it
 pub next_comes : (row b a : List ℕ) (one two : ℕ) → AreApart row → row ≡ b ++ one ∷ a → first_in a ≡ Some two → index_in one row < index_in two row
 next_comes row b [] one two apart e f = cc
 next_comes row b (x ∷ more) one two apart e f =

@@ -61,7 +61,7 @@ apart_append [] ys a b none = b
 apart_append (x ∷ xs) ys a b none =
     (λ h. elim (In_append xs ys x h) [ inl i ↦ a.0 i | inr i ↦ none x (inl refl) i ], apart_append xs ys a.1 b (λ k h i. none k (inr h) i))
 
--- what stands before and behind a member is one thing, where no number stands twice
+-- what stands before and after a member is one thing, where no number stands twice
 pub same_sides : (k : ℕ) (b a b' a' : List ℕ) → AreApart (b ++ k ∷ a) → b ++ k ∷ a ≡ b' ++ k ∷ a' → (b ≡ b') × (a ≡ a')
 same_sides k [] a [] a' apart e = (refl, grind (arith, e))
 same_sides k [] a (y ∷ b') a' apart e = absurd (apart.0 (subst (In k) (sym (tails a (b' ++ k ∷ a') k y e)) (In_right k b' (k ∷ a') (inl refl))))
@@ -149,7 +149,7 @@ oriented_flat Left f (x ∷ xs) =
     ∙ ap (λ (l : List ℕ). flat (λ k. mirrored (f k)) (mirrored xs) ++ l) (sym (append-nil (mirrored (f x))))
     ∙ sym (flat_append (λ k. mirrored (f k)) (mirrored xs) (x ∷ []))
 
--- what stands behind a member of one of the lists
+-- what stands after a member of one of the lists
 pub flat_around : (f : ℕ → List ℕ) (b : List ℕ) (p : ℕ) (a l : List ℕ) (k : ℕ) (r : List ℕ) → f p ≡ l ++ k ∷ r → flat f (b ++ p ∷ a) ≡ (flat f b ++ l) ++ k ∷ (r ++ flat f a)
 flat_around f b p a l k r is =
     flat_append f b (p ∷ a)

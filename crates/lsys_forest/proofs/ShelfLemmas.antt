@@ -510,7 +510,7 @@ module _ {T : Type 0} where
         there_shown None run list is = refl
         there_shown (Some x) run list is = is
 
-    -- a list came to a number of a node that lives, and the one that stood there behind the past ones
+    -- a list came to a number of a node that lives, and the one that stood there after the past ones
     pub swap_done : {X : Type 0} (there : Option X) (now now' : List (Option ℕ)) (run before : Option ℕ) (list : List T) (k : ℕ) → IsSome there → IsListPlaced h0.pool h1.pool run list → before ≡ run_before there (run_at now k) run → run_at now' k ≡ run_after there run → now' ≡ change_run there now k run → h1.past ≡ h0.past ++ before ∷ [] → h1.hand ≡ h0.hand → h0.pool.spare ≤ h1.pool.spare + list_room list → h0.past_places ≤ h1.past_places → IsOwner h0 now → IsOwner h1 now' × Swaps k list (shelf_of h0 now) (shelf_of h1 now')
     swap_done None now now' run before list k lives put was is changed e hand spare places owned = absurd (grind (arith, lives))
     swap_done (Some x) now now' run before list k lives put was is changed e hand spare places owned =
@@ -563,7 +563,7 @@ module _ {T : Type 0} where
           },
         )
 
-    -- the list at a number went behind the past ones
+    -- the list at a number went after the past ones
     pub push_done : (now now' : List (Option ℕ)) (run : Option ℕ) (k : ℕ) → run ≡ run_at now k → now' ≡ set now k None → h1.pool ≡ h0.pool → h1.past ≡ h0.past ++ run ∷ [] → h1.hand ≡ h0.hand → h0.past_places ≤ h1.past_places → IsOwner h0 now → IsOwner h1 now' × Swaps k [] (shelf_of h0 now) (shelf_of h1 now')
     push_done now now' run k was changed pool e hand places owned =
         let first = AreOwned-push h0.pool now' h0.past h0.hand run (AreOwned-taken h0.pool now now' h0.past h0.hand run k was changed owned) in (

@@ -26,7 +26,7 @@ heads_same x y xs ys e = cc
 never_empty : {X : Type 0} (x : X) (xs : List X) → [] ≡ x ∷ xs → ⊥
 never_empty x xs e = cc
 
--- how a list that ends with one is split: behind it, or before it
+-- how a list that ends with one is split: after it, or before it
 both_empty : {X : Type 0} (xs ys : List X) → [] ≡ xs ++ ys → (xs ≡ []) × (ys ≡ [])
 both_empty [] ys e = (refl, sym e)
 both_empty (x ∷ xs) ys e = absurd (never_empty x (xs ++ ys) e)

@@ -53,7 +53,7 @@ module _ {A : Type 0} where
       ∙ ap (λ (x : List ℤ). Some (node_of x (row_at kids k) s)) ps
       ∙ ap (λ (x : List ℕ). Some (node_of p x s)) qs
 
-  -- what stands behind a node that is shown
+  -- what stands after a node that is shown
   pub stored_of : (slots : List (Option (Stored A))) (params : List (List ℤ)) (kids : List (List ℕ)) (k : ℕ) (n : Node A) → shown_nodes slots params kids k ≡ Some n → (s : Stored A) × (slot_at slots k ≡ Some s) × (node_of (row_at params k) (row_at kids k) s ≡ n)
   stored_of slots params kids k n is = go (slot_at slots k) refl is
     where
@@ -99,7 +99,7 @@ module _ {A : Type 0} where
   told_step k n notes was.Kids params more [] more' rec p q = absurd (omega (arith, q))
   told_step k n notes was.Kids params more (y ∷ kids) more' rec p q = ap (λ (l : List (Change A)). record { node = k; before = OldKids y } ∷ l) (rec params kids (omega (arith, p)) (omega (arith, q)))
 
-  -- the lists of one note more stand behind those of the others
+  -- the lists of one note more stand after those of the others
   pub told_more : (notes : List (Note A)) (n : Note A) (params more : List (List ℤ)) (kids more' : List (List ℕ)) → length params ≡ param_count notes → length kids ≡ kid_count notes → changes_told (notes ++ n ∷ []) (params ++ more) (kids ++ more') ≡ changes_told notes params kids ++ changes_told (n ∷ []) more more'
   told_more [] n [] more [] more' p q = refl
   told_more [] n (x ∷ params) more kids more' p q = absurd (omega (arith, p))

@@ -166,7 +166,7 @@ module _ {A : Type 0} where
     pub at_is : at ≡ first_in ahead
     pub rest : Left (flat (kids_that_way way m) ahead)
 
-  -- what stands behind a node of the level below
+  -- what stands after a node of the level below
   abbrev pub Behind : Way → Nodes A → ℕ → ℕ → ℕ → List ℕ → Type 0
   Behind way m root t node rest = (b a : List ℕ) → oriented way (level_nodes m root (suc t)) ≡ b ++ node ∷ a → a ≡ rest
 

@@ -16,7 +16,7 @@ abbrev pub one_less : ℕ → Option ℕ
 one_less zero = None
 one_less (suc n) = Some n
 
--- how many branches are open behind a symbol, that way; none where the symbol ends the branch that is walked along
+-- how many branches are open after a symbol, that way; none where the symbol ends the branch that is walked along
 abbrev pub nested : Way → Kind → ℕ → Option ℕ
 nested Right kinds.Push n = Some (suc n)
 nested Right kinds.Pop n = one_less n

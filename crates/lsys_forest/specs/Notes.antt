@@ -30,7 +30,7 @@ abbrev pub kids_noted : Sort → ℕ
 kids_noted sort.Kids = 1
 kids_noted s = 0
 
--- the values and the answers that are left behind a line
+-- the values and the answers that are left after a line
 abbrev pub values_left : Sort → List Value → List Value
 values_left sort.Value [] = []
 values_left sort.Value (v ∷ values) = values
@@ -90,7 +90,7 @@ module _ {A : Type 0} where
     pub values_long : length values ≡ values_taken lines
     pub answers_long : length answers ≡ answers_taken lines
 
-  -- what a node was stands behind the values and the answers that were there, by the sort of its line
+  -- what a node was stands after the values and the answers that were there, by the sort of its line
   pub record PutsBy (s : Sort) (w : Was A) (values new_values : List Value) (answers new_answers : List A) : Type 0 where
     pub value : List Value
     pub answer : List A
@@ -116,7 +116,7 @@ module _ {A : Type 0} where
   remnant_of k was.Kids = remnant.Kids
   remnant_of k (was.Answer x) = remnant.Nothing
 
-  -- what the last line tells stood behind the values and the answers that are left, and this is left of its note
+  -- what the last line tells stood after the values and the answers that are left, and this is left of its note
   pub record IsPopped (l : Line) (left : Remnant) (values old_values : List Value)
       (answers old_answers : List A) : Type 0 where
     pub told : Was A

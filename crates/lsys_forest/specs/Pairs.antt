@@ -12,7 +12,7 @@ use Rattle.lsys_forest.specs.Mates.{one_less}
 use Rattle.lsys_forest.specs.Ranks.{KeepsLinks}
 use Rattle.lsys_forest.specs.Stocks.{Stock, nodes_of}
 
--- how many branches are open behind a symbol, that way; none where the symbol ends the branch that is walked along
+-- how many branches are open after a symbol, that way; none where the symbol ends the branch that is walked along
 abbrev pub turned : Way → Seen → ℕ → Option ℕ
 turned Right Push n = Some (suc n)
 turned Right Pop n = one_less n
@@ -54,7 +54,7 @@ AreMatedIn seen row footings =
     → seen k ≡ opening way → end_of way seen 0 after ≡ Some mate
     → mate_at footings k ≡ Some mate
 
--- While a row is walked along from the left: `opener` is the innermost bracket that is open behind those that were passed. A
+-- While a row is walked along from the left: `opener` is the innermost bracket that is open after those that were passed. A
 -- bracket that ends a branch has its mate, and so has each that begins one that was ended. One that is still open has the
 -- open bracket around it in that place: so the open brackets are a list, and need no memory.
 pub record IsPairing (seen : ℕ → Seen) (passed : List ℕ) (footings : List Footing)
@@ -66,13 +66,13 @@ pub record IsPairing (seen : ℕ → Seen) (passed : List ℕ) (footings : List 
       → mate_at footings k
       ≡ or_else (end_of Right seen 0 after) (end_of Left seen 0 (oriented Left before))
 
--- the innermost bracket that is open behind a symbol
+-- the innermost bracket that is open after a symbol
 abbrev pub still_open : Seen → List Footing → Option ℕ → ℕ → Option ℕ
 still_open Push footings opener node = Some node
 still_open Pop footings opener node = option_and_then (mate_at footings) opener
 still_open (Module v) footings opener node = opener
 
--- a symbol was passed behind these open brackets
+-- a symbol was passed after these open brackets
 pub record Pairs (seen : Seen) (old new : List Footing) (opener : Option ℕ) (node : ℕ)
     (next : Option ℕ) : Type 0 where
   pub next_is : next ≡ still_open seen old opener node
@@ -88,7 +88,7 @@ module _ {A : Type 0} where
   abbrev pub seen_at : Nodes A → ℕ → Seen
   seen_at m k = (spot_in k (m k)).seen
 
-  -- a node was passed behind these open brackets
+  -- a node was passed after these open brackets
   abbrev pub PairsIn : Stock A → Stock A → Option ℕ → ℕ → Option ℕ → Type 0
   PairsIn old new opener node next =
       Pairs (seen_at (nodes_of old) node) old.footings new.footings opener node next

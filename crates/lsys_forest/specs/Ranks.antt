@@ -15,7 +15,7 @@ AreChained row footings =
     (k : ℕ) (way : Way) (before after : List ℕ) → oriented way row ≡ before ++ k ∷ after
     → link_at way footings k ≡ first_in after
 
--- a node was linked behind the last one of a row, if there is one
+-- a node was linked after the last one of a row, if there is one
 pub record Joins (old new : List Footing) (last : Option ℕ) (kid : ℕ) : Type 0 where
   pub left : link_at Left new kid ≡ last
   pub right : link_at Right new kid ≡ None
@@ -25,7 +25,7 @@ pub record Joins (old new : List Footing) (last : Option ℕ) (kid : ℕ) : Type
   pub ranks : (k : ℕ) → rank_at new k ≡ rank_at old k
   pub mates : (k : ℕ) → mate_at new k ≡ mate_at old k
 
--- These nodes were linked as a row, the first of them behind the last one before them, if there is one: so a row that ended there
+-- These nodes were linked as a row, the first of them after the last one before them, if there is one: so a row that ended there
 -- goes on to the last of these.
 pub record LinksRow (old new : List Footing) (before : Option ℕ) (kids : List ℕ)
     (last : Option ℕ) : Type 0 where

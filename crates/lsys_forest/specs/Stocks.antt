@@ -82,7 +82,7 @@ TakesLastUp {T = T} old new = (before : List (List T)) (list : List T) → old.p
 abbrev pub PutsDown : {T : Type 0} → Shelf T → Shelf T → Type 0
 PutsDown old new = (new ≡ record old { hand = []; spare = new.spare }) × (old.spare ≤ new.spare)
 
--- this list came to a number, and the one that stood there behind the past ones
+-- this list came to a number, and the one that stood there after the past ones
 pub record Swaps {T : Type 0} (k : ℕ) (list : List T) (old new : Shelf T) : Type 0 where
   pub comes : ComesTo k list old.current new.current
   pub swapped : new ≡ record old { current = new.current; past = old.past ++ row_at old.current k ∷ []; spare = new.spare; past_places = new.past_places }
@@ -124,7 +124,7 @@ module _ {A : Type 0} where
   before_of was.Kids params kids = OldKids kids
   before_of (was.Answer x) params kids = OldAnswer x
 
-  -- the lists that are left behind a note
+  -- the lists that are left after a note
   abbrev pub params_left : Was A → List (List ℤ) → List (List ℤ)
   params_left (was.Kind x) params = behind_first params
   params_left w params = params

@@ -71,7 +71,7 @@ impl<A: Kept> Forest<A> {
     ///
     /// # Errors
     ///
-    /// Want of memory.
+    /// Out of memory.
     pub fn new(alloc: Global) -> Result<Forest<A>, AllocError>
         ensures root { IfOk result (λ f. (k : ℕ) → k ≢ f.root → now_of f k ≡ None) }
         ensures alone { IfOk result (λ f. now_of f f.root ≡ Some (root_node f.root)) }
@@ -95,7 +95,7 @@ impl<A: Kept> Forest<A> {
     ///
     /// # Errors
     ///
-    /// Want of memory; the other spares are then no less than they were. Room is never asked for more than 2^32 nodes, as many
+    /// Out of memory; the other spares are then no less than they were. Room is never asked for more than 2^32 nodes, as many
     /// as have numbers.
     pub fn reserve(
         &mut self,
@@ -381,7 +381,7 @@ impl<A: Kept> Forest<A> {
 
 impl<A: Kept> Forest<A> {
     /// Whether the first of two nodes of one complete level comes before the second. It is one look where the second stands
-    /// right behind the first on a linked level; else it climbs from both to where they meet.
+    /// right after the first on a linked level; else it climbs from both to where they meet.
     pub fn is_before(&self, one: NodeId, two: NodeId) -> bool
         requires one { IsAtSpot self.now one }
         requires two { IsAtSpot self.now two }

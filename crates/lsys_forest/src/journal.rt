@@ -76,7 +76,7 @@ impl<A: Drop> Journal<A> {
     ///
     /// # Errors
     ///
-    /// Want of memory. The notes stay.
+    /// Out of memory. The notes stay.
     pub(crate) fn reserve(&mut self, notes: usize) -> Result<(), AllocError>
         ensures notes { self.new.notes ≡ self.old.notes }
         ensures room { OnOk result (notes ≤ self.new.room) }

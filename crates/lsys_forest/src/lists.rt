@@ -52,7 +52,7 @@ impl<T: Copy> Lists<T> {
     ///
     /// # Errors
     ///
-    /// Want of memory. The lists stay.
+    /// Out of memory. The lists stay.
     pub(crate) fn reserve(&mut self, past: usize, cells: usize) -> Result<(), AllocError>
         ensures kept { KeepsPastAndHand self.old self.new }
         ensures pool { self.new.pool ≡ record self.old.pool { spare = self.new.pool.spare } }
@@ -108,7 +108,7 @@ impl<T: Copy> Lists<T> {
         self.region.free(run);
     }
 
-    /// Puts a run behind the past ones. It takes no memory.
+    /// Puts a run after the past ones. It takes no memory.
     pub(crate) fn push(&mut self, run: Run)
         requires { length self.old.past < self.old.past_places }
         ensures pushed { PutsBehindPast run self.old self.new }

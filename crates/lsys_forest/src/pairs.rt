@@ -69,7 +69,7 @@ fn mate_level<A: Kept>(parts: &mut Parts<A>, root: NodeId, first: NodeId, level:
 }
 
 /// Passes a node from the left to the right, where `opener` is the innermost bracket that is open before it, and answers the one
-/// that is open behind it. A bracket that begins a branch gets the open one around it in place of its mate, until its branch
+/// that is open after it. A bracket that begins a branch gets the open one around it in place of its mate, until its branch
 /// ends.
 fn pair<A: Kept>(parts: &mut Parts<A>, node: NodeId, opener: Option<NodeId>) -> Option<NodeId>
     requires lives { IsSome (nodes_of parts.old node) }

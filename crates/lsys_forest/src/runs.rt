@@ -15,7 +15,7 @@ use crate::lists::Lists;
 use crate::node::{Entry, NodeId, Stored, nowhere};
 use crate::table::Table;
 
-/// Gives a node these parameters, and puts those that it had behind the past ones. It takes no memory.
+/// Gives a node these parameters, and puts those that it had after the past ones. It takes no memory.
 pub(crate) fn swap_params<A: Drop>(
     table: &mut Table<A>,
     lists: &mut Lists<i64>,
@@ -35,7 +35,7 @@ pub(crate) fn swap_params<A: Drop>(
     lists.push(before);
 }
 
-/// Gives a node these children, and puts those that it had behind the past ones. It takes no memory.
+/// Gives a node these children, and puts those that it had after the past ones. It takes no memory.
 pub(crate) fn swap_kids<A: Drop>(
     table: &mut Table<A>,
     lists: &mut Lists<NodeId>,
@@ -115,7 +115,7 @@ pub(crate) fn insert<A: Drop>(
     table.insert(entry)
 }
 
-/// Removes a node that lives, frees its parameters, and puts its children behind the past ones. It takes no memory.
+/// Removes a node that lives, frees its parameters, and puts its children after the past ones. It takes no memory.
 pub(crate) fn take_out<A: Drop>(
     table: &mut Table<A>,
     params: &mut Lists<i64>,
@@ -185,7 +185,7 @@ pub(crate) fn number<A: Drop>(table: &mut Table<A>, kids: &[NodeId])
     }
 }
 
-/// Links these nodes to one another, the first of them behind this one, and answers the last.
+/// Links these nodes to one another, the first of them after this one, and answers the last.
 pub(crate) fn link_row<A: Drop>(
     table: &mut Table<A>,
     kids: &[NodeId],
@@ -206,7 +206,7 @@ pub(crate) fn link_row<A: Drop>(
     last
 }
 
-/// Links a node behind the last one, if there is one.
+/// Links a node after the last one, if there is one.
 fn join<A: Drop>(table: &mut Table<A>, last: Option<NodeId>, kid: NodeId)
     requires lives { IsSome (slot_at table.old.slots kid) }
     requires last { (k : ℕ) → last ≡ Some k → IsSome (slot_at table.old.slots k) × (k ≢ kid) }

@@ -62,7 +62,7 @@ impl<A: Drop> Parts<A> {
     ///
     /// # Errors
     ///
-    /// Want of memory.
+    /// Out of memory.
     pub(crate) fn of_root(alloc: Global) -> Result<Parts<A>, AllocError>
         ensures nodes { IfOk result (λ p. nodes_of p ≡ with_node (λ k. None) 0 (Some (root_node 0))) }
         ensures changes { IfOk result (λ p. changes_of p ≡ []) }
@@ -89,7 +89,7 @@ impl<A: Drop> Parts<A> {
     ///
     /// # Errors
     ///
-    /// Want of memory. The nodes and the changes stay.
+    /// Out of memory. The nodes and the changes stay.
     pub(crate) fn reserve(
         &mut self,
         params: usize,
@@ -115,7 +115,7 @@ impl<A: Drop> Parts<A> {
     ///
     /// # Errors
     ///
-    /// Want of memory. The nodes stay.
+    /// Out of memory. The nodes stay.
     pub(crate) fn reserve_nodes(&mut self, nodes: usize) -> Result<(), AllocError>
         ensures nodes { self.new ≡ record self.old { capacity = self.new.capacity } }
         ensures room { OnOk result (live_slots self.new.slots + nodes ≤ self.new.capacity) }
@@ -391,7 +391,7 @@ impl<A: Drop> Parts<A> {
         }
     }
 
-    /// Links the children of a node to one another, the first of them behind `before`, and answers the last.
+    /// Links the children of a node to one another, the first of them after `before`, and answers the last.
     pub(crate) fn link_kids(&mut self, node: NodeId, before: Option<NodeId>) -> Option<NodeId>
         requires sound { (root : ℕ) × IsRooted root (changes_of self.old) (nodes_of self.old) }
         requires before { IsApartFrom (nodes_of self.old) (kids_kept self.old node) before }

@@ -47,7 +47,7 @@ impl<A: Drop> Table<A> {
     ///
     /// # Errors
     ///
-    /// Want of memory. The nodes stay. No clause of the slab bounds what room it makes, so that is looked at; its code makes no
+    /// Out of memory. The nodes stay. No clause of the slab bounds what room it makes, so that is looked at; its code makes no
     /// more than was asked for.
     pub(crate) fn reserve(&mut self, nodes: usize) -> Result<(), AllocError>
         ensures nodes { self.new ≡ record self.old { capacity = self.new.capacity } }

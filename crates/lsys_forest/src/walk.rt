@@ -164,7 +164,7 @@ pub(crate) fn first_at<A: Kept>(
     at
 }
 
-/// How many branches are open inside the one that is walked along, behind a symbol; none where the symbol ends it.
+/// How many branches are open inside the one that is walked along, after a symbol; none where the symbol ends it.
 fn nest(way: Way, kind: Kind, inside: u32) -> Option<u32>
     requires { inside + 1 < 2 ^ 32 }
     ensures { result ≡ nested way kind inside }
@@ -248,7 +248,7 @@ pub(crate) fn is_before<A: Kept>(
     is_before(parts, root, parent, other, depth - 1)
 }
 
-/// The same, in one look where the second node stands right behind the first one on a linked level.
+/// The same, in one look where the second node stands right after the first one on a linked level.
 pub(crate) fn comes_before<A: Kept>(
     parts: &Parts<A>,
     root: NodeId,
@@ -271,7 +271,7 @@ pub(crate) fn comes_before<A: Kept>(
     is_before(parts, root, one, two, depth)
 }
 
-/// Whether the links tell that a node stands right behind another one.
+/// Whether the links tell that a node stands right after another one.
 fn is_linked_to<A: Kept>(parts: &Parts<A>, one: NodeId, two: NodeId) -> bool
     ensures { IsTrue result → link_at Right parts.now.footings one ≡ Some two }
 {

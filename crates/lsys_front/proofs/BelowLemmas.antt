@@ -3,23 +3,21 @@ use Rattle.std.proofs.Common.{◌≡◌, ◌⊎◌, ℕ, true, List, [], ◌∷�
 use Rattle.std.proofs.lemmas.Option.{same_Some}
 use Rattle.lsys_spec.specs.Rows.{In, first_in, last_in, flat, AreApart}
 use Rattle.lsys_level.specs.Spots.{Seen, Push, Pop, Module, IsBracket, with_lineage}
-use Rattle.lsys_change.specs.Kinds.{BracketKind, Opens, Closes, Neither, kind_of_symbol}
-use Rattle.lsys_change.specs.Seams as S
-use Rattle.lsys_change.specs.Seams.{right_of, left_of, node_before, AreTurned}
-use Rattle.lsys_change.specs.Mates.{balancing, AgreeOn, AreBalanced, AreOwn, AreMatesAmong, Generation, AreMatesOn, IsGeneration}
-use Rattle.lsys_change.proofs.Joints as J
-use Rattle.lsys_change.proofs.Mirrors.{right_neighbour, left_neighbour}
+use Rattle.lsys_laws.specs.Kinds.{BracketKind, Opens, Closes, Neither, kind_of_symbol}
+use Rattle.lsys_laws.specs.Seams.{right_of, left_of, AreTurned}
+use Rattle.lsys_laws.specs.Mates.{balancing, AgreeOn, AreBalanced, AreOwn, AreMatesAmong, Generation, AreMatesOn, IsGeneration}
+use Rattle.lsys_laws.proofs.Joints as J
+use Rattle.lsys_laws.proofs.Mirrors.{right_neighbour, left_neighbour}
 use Rattle.lsys_forest.specs.Nodes.{Nodes}
-use Rattle.lsys_forest.specs.Groves as G
 use Rattle.lsys_forest.specs.Groves.{Grove, now_of}
 use Rattle.lsys_forest.specs.Rows.{index_in, spot_in, kids_in, kids_below, level_nodes, level_with}
 use Rattle.lsys_forest.proofs.RowLemmas.{flat_append}
-use Rattle.lsys_kept.specs.Neighbours.{neighbours_on, neighbours_in, mate_on}
-use Rattle.lsys_kept.specs.Branches.{IsSameParent, AreLookedMates}
-use Rattle.lsys_kept.specs.Looks.{LooksAround, LooksBeyond, AreLooked, AreLookedSeats, kids_of_level, kind_in}
-use Rattle.lsys_kept.proofs.LevelLemmas.{place_in, get_index, index_less, named_by_number}
-use Rattle.lsys_kept.proofs.BranchLemmas.{ended, opener_there, closer_there}
-use Rattle.lsys_kept.proofs.LookedLemmas.{opener_has, open_mate, close_mate, closer_has, seat_looked}
+use Rattle.lsys_reads.specs.Neighbours.{neighbours_on, neighbours_in, mate_on}
+use Rattle.lsys_reads.specs.Branches.{IsSameParent, AreLookedMates}
+use Rattle.lsys_reads.specs.Looks.{LooksAround, LooksBeyond, AreLooked, AreLookedSeats, kids_of_level, kind_in}
+use Rattle.lsys_reads.proofs.LevelLemmas.{place_in, get_index, index_less, named_by_number}
+use Rattle.lsys_reads.proofs.BranchLemmas.{ended, opener_there, closer_there}
+use Rattle.lsys_reads.proofs.LookedLemmas.{opener_has, open_mate, close_mate, closer_has, seat_looked}
 use Rattle.lsys_front.specs.Generations.{is_parent, left_generation}
 use Rattle.lsys_front.specs.Below.{kids_at, KeepsFamily, AreLookedBelow}
 use Rattle.lsys_front.proofs.LeftLemmas.{nodes_are, next_is, mates_are, opener_has_child, in_flat, is_generation}
@@ -318,11 +316,6 @@ module _ {A : Type 0} (o : Nodes A) (f : Grove A) (t : ℕ) (touched turned look
     new_level = l.are.next;
     old_balanced = subst (AreBalanced (kind_in o) 0) (sym (next_is (kind_in o) (kids_at o) was)) l.were.next_balanced;
   }
-
-pub looked_seats : {A : Type 0} (o : Nodes A) (f : Grove A) (t : ℕ) (touched turned looked : List ℕ) → AreLookedBelow o f t touched turned looked
-    → AreLookedSeats o f t (kids_at o) (level_nodes o f.root t) (left_generation (kind_in o) (kids_at o) (level_nodes o f.root t))
-    (left_generation (kind_in (now_of f)) (kids_at (now_of f)) (level_nodes (now_of f) f.root t)) touched (turned ++ touched) looked
-looked_seats o f t touched turned looked l = looked_seats_of o f t touched turned looked l
 
 pub stays : {A : Type 0} (o : Nodes A) (f : Grove A) (t : ℕ) (touched turned looked : List ℕ) → AreLookedBelow o f t touched turned looked
     → (p i k : ℕ) → slice_get (flat (kids_at o) (level_nodes o f.root t)) p ≡ Some k → slice_get (kids_of_level f t) i ≡ Some k

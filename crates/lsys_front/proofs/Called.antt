@@ -3,13 +3,13 @@ use Rattle.std.proofs.Common.{◌≡◌, ◌↔◌, ℕ, false, List, [], ◌∷
 use Rattle.lsys_spec.specs.Rows.{In, AreApart}
 use Rattle.lsys_spec.specs.Systems.{System}
 use Rattle.lsys_forest.specs.Groves.{Grove, now_of}
-use Rattle.lsys_kept.specs.declared.seat.Seat.{Seat}
-use Rattle.lsys_kept.specs.Seats.{is_marked}
-use Rattle.lsys_candidates.specs.Asks.{AddsOf, AreOnOneLevel, ArePlaced}
-use Rattle.lsys_candidates.specs.Candidates.{AsksOn}
-use Rattle.lsys_candidates.specs.Finds.{Gathers, AllMarked}
-use Rattle.lsys_candidates.proofs.Gathering.{gathers_kind, gathers_next, still_marked}
-use Rattle.lsys_candidates.proofs.Marking.{found_kind, kind_found}
+use Rattle.lsys_reads.specs.declared.seat.Seat.{Seat}
+use Rattle.lsys_reads.specs.Seats.{is_marked}
+use Rattle.lsys_front.specs.Questioned.{AddsOf, AreOnOneLevel, ArePlaced}
+use Rattle.lsys_front.specs.Candidates.{AsksOn}
+use Rattle.lsys_front.specs.Finds.{Gathers, AllMarked}
+use Rattle.lsys_front.proofs.Gathering.{gathers_kind, gathers_next, still_marked}
+use Rattle.lsys_front.proofs.Marking.{found_kind, kind_found}
 use Rattle.lsys_front.specs.Fronts.{Differences}
 use Rattle.lsys_front.specs.Asks.{MayBeAsked, StandTogether}
 

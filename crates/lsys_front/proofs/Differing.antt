@@ -9,23 +9,23 @@ use Rattle.lsys_forest.specs.Groves.{Grove, IsRooted, now_of, changes_in}
 use Rattle.lsys_forest.specs.Rows.{kids_in, kids_below, level_nodes}
 use Rattle.lsys_forest.proofs.RowLemmas as rows
 use Rattle.lsys_forest.proofs.SoundLemmas.{AreSound-now}
-use Rattle.lsys_brood.specs.Matches.{nodes_without}
-use Rattle.lsys_brood.specs.Children.{ToldNodes, KeepsChildren}
+use Rattle.lsys_children.specs.Matches.{nodes_without}
+use Rattle.lsys_children.specs.Children.{ToldNodes, KeepsChildren}
 use Rattle.lsys_match.specs.Kept.{Kept}
-use Rattle.lsys_kept.specs.declared.seat.Seat.{Seat}
-use Rattle.lsys_kept.specs.Standings.{seen_at}
-use Rattle.lsys_repair.specs.Nexts.{Successors}
-use Rattle.lsys_repair.specs.Renewals.{KeepsDeeper}
-use Rattle.lsys_repair.proofs.Above.{upper_nodes}
-use Rattle.lsys_repair.proofs.Depths.{still, on_level}
-use Rattle.lsys_repair.proofs.Renewing.{keeps_upper}
-use Rattle.lsys_repair.specs.declared.parent.Parent.{Parent}
-use Rattle.lsys_repair.specs.Parents.{nodes_in, AreToldBy}
-use Rattle.lsys_repair.specs.Needs.{number_told, wanted_symbols}
-use Rattle.lsys_repair.specs.Made.{IsChildOfAny, gone_of}
-use Rattle.lsys_candidates.specs.Repairs.{Repair, SteppingSpots, now, rest, root, were, are}
-use Rattle.lsys_candidates.specs.Found.{LevelChanges, Differs}
-use Rattle.lsys_candidates.proofs.Spots.{sound_old, sound_new}
+use Rattle.lsys_reads.specs.declared.seat.Seat.{Seat}
+use Rattle.lsys_reads.specs.Standings.{seen_at}
+use Rattle.lsys_children.specs.Nexts.{Successors}
+use Rattle.lsys_children.specs.Renewals.{KeepsDeeper}
+use Rattle.lsys_children.proofs.Above.{upper_nodes}
+use Rattle.lsys_children.proofs.Depths.{still, on_level}
+use Rattle.lsys_children.proofs.Renewing.{keeps_upper}
+use Rattle.lsys_children.specs.declared.parent.Parent.{Parent}
+use Rattle.lsys_children.specs.Parents.{nodes_in, AreToldBy}
+use Rattle.lsys_children.specs.Needs.{number_told, wanted_symbols}
+use Rattle.lsys_children.specs.Made.{IsChildOfAny, gone_of}
+use Rattle.lsys_front.specs.Repairs.{Repair, SteppingSpots, now, rest, root, were, are}
+use Rattle.lsys_front.specs.Found.{LevelChanges, Differs}
+use Rattle.lsys_front.proofs.Spots.{sound_old, sound_new}
 use Rattle.lsys_front.specs.Fronts.{Differences, IsLevelFront, MakesNext, IsToldNext, IsFirst, IsToldFirst, next_of}
 use Rattle.lsys_front.proofs.Rows.{in_flat}
 use Rattle.lsys_front.proofs.Steps.{IsStep, lost_at, came_forth, came_back, changed_forth, changed_back, lost_forth, left_forth, gone_back, lost_apart, gone_apart, families_kept}

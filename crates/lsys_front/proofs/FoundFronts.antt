@@ -4,15 +4,15 @@ use Rattle.std.proofs.lemmas.Option.{none-some}
 use Rattle.lsys_spec.specs.Rows.{In, AreApart}
 use Rattle.lsys_reads.specs.Relations.{Relations}
 use Rattle.lsys_forest.proofs.RowLemmas.{In_left, In_right}
-use Rattle.lsys_kept.specs.Levels.{answer_at}
-use Rattle.lsys_kept.specs.declared.seat.Seat.{Seat}
-use Rattle.lsys_kept.specs.Neighbours.{neighbours_in}
-use Rattle.lsys_kept.specs.Seats.{neighbours_at}
-use Rattle.lsys_kept.specs.Standings.{AreSeated}
-use Rattle.lsys_candidates.specs.Repairs.{Repair, SteppingSpots, now, rest, were, are}
-use Rattle.lsys_candidates.specs.Found.{LevelChanges, Differs, IsFound}
-use Rattle.lsys_candidates.proofs.Spots.{is_in, sound_new}
-use Rattle.lsys_candidates.proofs.FoundNodes.{same_neighbours}
+use Rattle.lsys_reads.specs.Levels.{answer_at}
+use Rattle.lsys_reads.specs.declared.seat.Seat.{Seat}
+use Rattle.lsys_reads.specs.Neighbours.{neighbours_in}
+use Rattle.lsys_reads.specs.Seats.{neighbours_at}
+use Rattle.lsys_reads.specs.Standings.{AreSeated}
+use Rattle.lsys_front.specs.Repairs.{Repair, SteppingSpots, now, rest, were, are}
+use Rattle.lsys_front.specs.Found.{LevelChanges, Differs, IsFound}
+use Rattle.lsys_front.proofs.Spots.{is_in, sound_new}
+use Rattle.lsys_front.proofs.FoundNodes.{same_neighbours}
 use Rattle.lsys_front.specs.Turned.{AreTurnedBy}
 use Rattle.lsys_front.specs.Fronts.{IsLevelFront}
 

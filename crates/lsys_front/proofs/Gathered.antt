@@ -1,11 +1,11 @@
 -- Nodes whose children may be others, each once.
 use Rattle.std.proofs.Common.{◌≡◌, ◌↔◌, ℕ, false, List, [], sym, subst, inl, inr}
 use Rattle.lsys_spec.specs.Rows.{In}
-use Rattle.lsys_kept.specs.declared.seat.Seat.{Seat}
-use Rattle.lsys_kept.specs.Seats.{is_marked}
-use Rattle.lsys_candidates.specs.Finds.{Gathers, AllMarked}
-use Rattle.lsys_candidates.proofs.Gathering.{gathers_kind, gathers_next, still_marked}
-use Rattle.lsys_candidates.proofs.Marking.{found_kind, kind_found}
+use Rattle.lsys_reads.specs.declared.seat.Seat.{Seat}
+use Rattle.lsys_reads.specs.Seats.{is_marked}
+use Rattle.lsys_front.specs.Finds.{Gathers, AllMarked}
+use Rattle.lsys_front.proofs.Gathering.{gathers_kind, gathers_next, still_marked}
+use Rattle.lsys_front.proofs.Marking.{found_kind, kind_found}
 use Rattle.lsys_front.specs.Fronts.{Differences, MayHaveOthers}
 
 module _ (d : Differences) (renewed : List ℕ) where

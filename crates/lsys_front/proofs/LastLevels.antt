@@ -2,17 +2,17 @@
 use Rattle.std.proofs.Common.{◌≡◌, ◌+◌, ◌-◌, ℕ, List, [], length, refl, ap, ◌∙◌, arith, inl, inr}
 use Rattle.std.specs.Option.{option_and_then}
 use Rattle.lsys_spec.specs.Rows.{In}
-use Rattle.lsys_change.proofs.UpTo.{level_count}
+use Rattle.lsys_laws.proofs.UpTo.{level_count}
 use Rattle.lsys_forest.specs.Nodes.{Nodes}
 use Rattle.lsys_forest.specs.Changes.{Change}
 use Rattle.lsys_forest.specs.Answers.{answer_of}
 use Rattle.lsys_forest.specs.Groves.{IsRooted, changes_in}
 use Rattle.lsys_forest.proofs.SoundLemmas.{AreSound-now, AreSound-then}
 use Rattle.lsys_match.specs.Kept.{Kept}
-use Rattle.lsys_kept.specs.Meant.{meant_to}
-use Rattle.lsys_repair.proofs.Above.{upper_levels}
-use Rattle.lsys_candidates.specs.Repairs.{Repair, SteppingSpots, now, rest, root, are}
-use Rattle.lsys_candidates.specs.Found.{LevelChanges}
+use Rattle.lsys_reads.specs.Meant.{meant_to}
+use Rattle.lsys_children.proofs.Above.{upper_levels}
+use Rattle.lsys_front.specs.Repairs.{Repair, SteppingSpots, now, rest, root, are}
+use Rattle.lsys_front.specs.Found.{LevelChanges}
 use Rattle.lsys_front.specs.Ends.{AreEnded, answered_in, rows_from}
 use Rattle.lsys_front.specs.LastLevels.{IsLevelEnded, IsBehindAll, IsLastLevel, all_below, HadAnswerBehind, HasAllBehind}
 use Rattle.lsys_front.proofs.Lasts.{ended_upper, ended_kins, ended_stay, ended_nodes, ended_spots, ended_behind, ended_answers, ended_small, rows_below, answers_once, below_lives, not_reached, gone_kids, HadOne, had_one, had_it, bare_behind, bare_answers}
@@ -61,7 +61,7 @@ is_bare r s b =
       small = λ h. h;
     }
 
--- 2. what was behind it
+-- 2. what was after it
 
 pub has_behind : (r : Repair) (c : LevelChanges) (m : Nodes Kept) → IsLastLevel r c → AreEnded (now r) m (are r) → HasAllBehind r c m
 has_behind r c m l e = record {

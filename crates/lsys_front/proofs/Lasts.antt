@@ -1,4 +1,4 @@
--- A level that ends, and what was behind it at the last rest.
+-- A level that ends, and what was after it at the last rest.
 use Rattle.std.proofs.Common.{◌≡◌, ◌⊎◌, ◌↔◌, ◌+◌, ◌-◌, ◌<◌, ◌≤◌, ℕ, zero, suc, List, [], ◌∷◌, ◌++◌, Option, Some, None, refl, sym, ap, ◌∙◌, subst, arith, inl, inr}
 use Rattle.std.specs.Prelude.{IsSome, option_map}
 use Rattle.std.specs.Option.{option_and_then}
@@ -6,7 +6,7 @@ use Rattle.std.proofs.lemmas.Bool.{cases_lt}
 use Rattle.std.proofs.lemmas.Option.{none-some, same_Some}
 use Rattle.lsys_spec.specs.Rows.{In, AreApart, flat}
 use Rattle.lsys_spec.specs.Draws.{number_base}
-use Rattle.lsys_change.specs.Nodes.{Kin, Extends}
+use Rattle.lsys_laws.specs.Nodes.{Kin, Extends}
 use Rattle.lsys_forest.specs.Nodes.{Node, Nodes}
 use Rattle.lsys_forest.specs.Changes.{Change}
 use Rattle.lsys_forest.specs.Answers.{answer_of}
@@ -14,11 +14,11 @@ use Rattle.lsys_forest.specs.Groves.{IsRooted, ReachedIn, Reached}
 use Rattle.lsys_forest.specs.Rows.{kids_in, kids_below, spot_in, level_nodes, level_spots}
 use Rattle.lsys_forest.proofs.LinkLemmas.{flat_same}
 use Rattle.lsys_forest.proofs.RowLemmas as rows
-use Rattle.lsys_kept.specs.Lineages.{kin_of, kins}
-use Rattle.lsys_repair.specs.Renewals.{AreSmall, KeepsUpper, KeepsDeeper}
-use Rattle.lsys_repair.proofs.Above.{upper_nodes, upper_spots}
-use Rattle.lsys_repair.proofs.Depths.{on_level}
-use Rattle.lsys_repair.proofs.Renewing.{in_cases}
+use Rattle.lsys_reads.specs.Lineages.{kin_of, kins}
+use Rattle.lsys_children.specs.Renewals.{AreSmall, KeepsUpper, KeepsDeeper}
+use Rattle.lsys_children.proofs.Above.{upper_nodes, upper_spots}
+use Rattle.lsys_children.proofs.Depths.{on_level}
+use Rattle.lsys_children.proofs.Renewing.{in_cases}
 use Rattle.lsys_front.specs.Ends.{ended_node, AreEnded, is_answered, answered_in, row_below, rows_from, AreDeep}
 use Rattle.lsys_front.proofs.Rows.{in_flat}
 use Rattle.lsys_front.proofs.RowsBelow.{filter_in, in_filter, filter_apart, SameIn, row_level, rows_row, row_rows, below_apart, deep_rows, rows_apart, AgreeFrom, row_same, rows_same, answered, is_answered_by}
@@ -58,7 +58,7 @@ module _ {A : Type 0} where
       let n : d + suc t ≡ suc (d + t) = omega arith in
       ap (λ s. kids_below m (level_nodes m root s)) n ∙ ap (kids_below m) (later_none m root d t e)
 
-  -- behind a level without nodes there are none
+  -- after a level without nodes there are none
   none_later : (m : Nodes A) (root d v : ℕ) → d < v → level_nodes m root (d + 1) ≡ [] → level_nodes m root v ≡ []
   none_later m root d v l e = let n : v ≡ suc (d + (v - (d + 1))) = omega (arith, l) in ap (level_nodes m root) n ∙ later_none m root d (v - (d + 1)) e
 
@@ -125,9 +125,9 @@ module _ {A : Type 0} where
       | inr out ↦ small k n (sym (e.others k out) ∙ is)
     ]
 
-  -- 2. what was behind the level
+  -- 2. what was after the level
 
-  -- the node was on one of the levels behind this one, so many of them, and kept an answer
+  -- the node was on one of the levels after this one, so many of them, and kept an answer
   pub record HadOne (o : Nodes A) (root u n k : ℕ) : Type 0 where
     pub level : ℕ
     pub behind : u < level
@@ -310,7 +310,7 @@ module _ {A : Type 0} where
             in_filter (is_answered new) (rows_from new n below) k (row_rows new n below k i (omega (arith, h.within, h.behind)) at)
             (is_answered_by new k h.answer (ap (option_and_then answer_of) (was_same k h.level h.behind h.there) ∙ h.kept))
 
-    -- 3. nothing was behind the level
+    -- 3. nothing was after the level
 
     bare_kids : (d : ℕ) → d ≤ u → level_nodes o root (d + 1) ≡ [] → (k : ℕ) → In k (level_nodes m root u) → kids_in (m k) ≡ []
     bare_kids d l e k i = elim (was_or_bare k i) [

@@ -2,9 +2,9 @@
 use Rattle.std.proofs.Common.{◌≡◌, inl, inr, ℕ, zero, suc, Bool, true, false, cond, List, [], ◌∷◌, ◌++◌, append_assoc, Option, Some, None, refl, ap, sym, ◌∙◌, subst, arith}
 use Rattle.std.specs.Prelude.{◌↔◌, ◌+◌}
 use Rattle.lsys_spec.specs.Rows.{In, AreApart, flat}
-use Rattle.lsys_change.specs.Kinds.{BracketKind, Opens, Closes, Neither, stays, reached}
-use Rattle.lsys_change.specs.Mates.{closing, closer, balancing, AreBalanced, AreOwn, below, AreMatesAmong, next_nodes, AreMatesOn, IsGeneration}
-use Rattle.lsys_change.proofs.Joints.{in_front, in_back}
+use Rattle.lsys_laws.specs.Kinds.{BracketKind, Opens, Closes, Neither, stays, reached}
+use Rattle.lsys_laws.specs.Mates.{closing, closer, balancing, AreBalanced, AreOwn, below, AreMatesAmong, next_nodes, AreMatesOn, IsGeneration}
+use Rattle.lsys_laws.proofs.Joints.{in_front, in_back}
 use Rattle.lsys_front.specs.Generations.{IsLeft, AreLeft, is_parent, parents, IsLeftLevel, left_generation}
 
 -- 1. nodes that are left
@@ -189,7 +189,7 @@ left_from : (kind : ℕ → BracketKind) (own : ℕ → List ℕ) (o : Option �
 left_from kind own o [] ys l = (o, l)
 left_from kind own o (x ∷ xs) ys l = left_from kind own (reached o (kind x) l.1) xs ys l.2
 
--- behind a bracket that begins a branch, and has a child, nothing is being cut off
+-- after a bracket that begins a branch, and has a child, nothing is being cut off
 left_behind : (kind : ℕ → BracketKind) (own : ℕ → List ℕ) (c : Bool) (q : ℕ) (after : List ℕ) (o : Option ℕ) (k : BracketKind) → k ≡ Opens → is_parent (own q) ≡ true
     → IsLeft kind (stays o k) k (own q) → AreLeft kind own (reached o k c) after → AreLeft kind own None after
 left_behind kind own c q after o Neither e p w l = cc

@@ -6,18 +6,18 @@ use Rattle.lsys_spec.specs.Rows.{In}
 use Rattle.lsys_spec.specs.Bodies.{Body, group}
 use Rattle.lsys_spec.specs.Levels.{ModuleValue}
 use Rattle.lsys_spec.specs.Questions.{questions, is_needed}
-use Rattle.lsys_change.specs.Passes.{module_question}
+use Rattle.lsys_laws.specs.Passes.{module_question}
 use Rattle.lsys_level.specs.Spots.{Seen, Push, Pop, Module, Spotted}
 use Rattle.lsys_forest.specs.Rows.{spot_in, level_spots}
-use Rattle.lsys_kept.specs.Levels.{IsAnsweredRight, AnsweredAt, level_of, answer_at}
-use Rattle.lsys_kept.specs.Meant.{IsNeeded}
-use Rattle.lsys_kept.specs.Standings.{seen_at}
-use Rattle.lsys_kept.proofs.LevelLemmas.{got_in}
-use Rattle.lsys_candidates.specs.Repairs.{Repair, now, root, rest, are, SteppingSpots}
-use Rattle.lsys_candidates.specs.Candidates.{AsksNow, IsCandidateNode}
-use Rattle.lsys_candidates.proofs.Gathering.{not_both}
-use Rattle.lsys_candidates.proofs.Nodes.{is_candidate, tag_is, seen_there}
-use Rattle.lsys_candidates.proofs.Spots.{is_in, xs, is_level}
+use Rattle.lsys_reads.specs.Levels.{IsAnsweredRight, AnsweredAt, level_of, answer_at}
+use Rattle.lsys_reads.specs.Meant.{IsNeeded}
+use Rattle.lsys_reads.specs.Standings.{seen_at}
+use Rattle.lsys_reads.proofs.LevelLemmas.{got_in}
+use Rattle.lsys_front.specs.Repairs.{Repair, now, root, rest, are, SteppingSpots}
+use Rattle.lsys_front.specs.Candidates.{AsksNow, IsCandidateNode}
+use Rattle.lsys_front.proofs.Gathering.{not_both}
+use Rattle.lsys_front.proofs.Nodes.{is_candidate, tag_is, seen_there}
+use Rattle.lsys_front.proofs.Spots.{is_in, xs, is_level}
 use Rattle.lsys_front.specs.Asks.{IsToAsk, IsUnasked}
 use Rattle.lsys_front.proofs.Unasked.{none_kept, spot_now, unneeded, keeps_right}
 

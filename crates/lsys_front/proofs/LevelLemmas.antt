@@ -14,28 +14,26 @@ use Rattle.lsys_spec.specs.Meaning.{children, replacement}
 use Rattle.lsys_spec.proofs.Cutting.{cut_balanced}
 use Rattle.lsys_spec.proofs.Balanced.{is_level}
 use Rattle.lsys_spec.proofs.Offspring.{has_balance, successor_balanced, successor_short, offspring_balanced}
-use Rattle.lsys_change.specs.Kinds.{BracketKind, kind_of_symbol, stays, reached}
-use Rattle.lsys_change.specs.Seams as S
-use Rattle.lsys_change.specs.Mates.{balancing, AreBalanced, AreOwn}
-use Rattle.lsys_change.specs.Children.{is_open}
-use Rattle.lsys_change.proofs.UpTo.{level_count}
+use Rattle.lsys_laws.specs.Kinds.{BracketKind, kind_of_symbol, stays, reached}
+use Rattle.lsys_laws.specs.Mates.{balancing, AreBalanced, AreOwn}
+use Rattle.lsys_laws.specs.Children.{is_open}
+use Rattle.lsys_laws.proofs.UpTo.{level_count}
 use Rattle.lsys_level.specs.Spots.{Seen, Push, Pop, Module, with_lineage, level_by}
 use Rattle.lsys_forest.specs.Nodes.{Nodes}
-use Rattle.lsys_forest.specs.Groves as G
 use Rattle.lsys_forest.specs.Rows.{index_in, spot_in, kids_in, level_nodes}
 use Rattle.lsys_forest.proofs.RowLemmas.{get_split, index_of, level_apart}
 use Rattle.lsys_match.specs.Kept.{Kept}
-use Rattle.lsys_brood.specs.Children.{bracket_kind}
-use Rattle.lsys_kept.specs.Lineages.{names}
-use Rattle.lsys_kept.specs.Levels.{level_of}
-use Rattle.lsys_kept.specs.Meant.{meant_to}
-use Rattle.lsys_repair.specs.Nexts.{Successors, AreLevels, HaveWanted, node_symbol, node_kind}
-use Rattle.lsys_repair.proofs.Nexts.{kind_with, balance_by}
-use Rattle.lsys_repair.proofs.Families.{level_families}
-use Rattle.lsys_kept.specs.Neighbours.{numbered_level}
-use Rattle.lsys_kept.specs.Looks.{kind_in}
-use Rattle.lsys_kept.proofs.LevelLemmas.{place_in, lineage_at}
-use Rattle.lsys_kept.proofs.LookedLemmas.{node_at}
+use Rattle.lsys_children.specs.Children.{bracket_kind}
+use Rattle.lsys_reads.specs.Lineages.{names}
+use Rattle.lsys_reads.specs.Levels.{level_of}
+use Rattle.lsys_reads.specs.Meant.{meant_to}
+use Rattle.lsys_children.specs.Nexts.{Successors, AreLevels, HaveWanted, node_symbol, node_kind}
+use Rattle.lsys_children.proofs.Nexts.{kind_with, balance_by}
+use Rattle.lsys_children.proofs.Families.{level_families}
+use Rattle.lsys_reads.specs.Neighbours.{numbered_level}
+use Rattle.lsys_reads.specs.Looks.{kind_in}
+use Rattle.lsys_reads.proofs.LevelLemmas.{place_in, lineage_at}
+use Rattle.lsys_reads.proofs.LookedLemmas.{node_at}
 use Rattle.lsys_front.specs.Generations.{IsLeft, AreLeft}
 use Rattle.lsys_front.specs.Below.{kids_at, AreLeftLevels}
 

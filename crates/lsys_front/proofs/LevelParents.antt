@@ -5,29 +5,29 @@ use Rattle.std.proofs.lemmas.Option.{slice_get-map}
 use Rattle.lsys_spec.specs.Rows.{In, AreApart}
 use Rattle.lsys_syntax.specs.Commands.{Numbering}
 use Rattle.lsys_spec.specs.Draws.{key_of}
-use Rattle.lsys_change.specs.Children.{is_open}
+use Rattle.lsys_laws.specs.Children.{is_open}
 use Rattle.lsys_level.specs.Spots.{Spotted}
 use Rattle.lsys_match.specs.Kept.{Kept}
 use Rattle.lsys_forest.specs.Nodes.{Node}
 use Rattle.lsys_forest.specs.Groves.{changes_in}
 use Rattle.lsys_forest.specs.Rows.{spot_in, level_spots}
 use Rattle.lsys_forest.proofs.RowLemmas.{level_depth}
-use Rattle.lsys_kept.specs.Standings.{seen_at}
-use Rattle.lsys_kept.proofs.LevelLemmas.{got_in, place_in}
-use Rattle.lsys_kept.specs.Lineages.{names}
-use Rattle.lsys_kept.specs.Levels.{level_of, AnsweredAt, answer_at}
-use Rattle.lsys_candidates.specs.Repairs.{Repair, SteppingSpots, now, rest, root, were, are}
-use Rattle.lsys_candidates.proofs.Spots.{sound_old, sound_new, old_long, new_long}
-use Rattle.lsys_repair.specs.Nexts.{Successors, node_symbol, HasWanted, AreClosed}
-use Rattle.lsys_repair.specs.Renewals.{AreSmall, KeepsDeeper}
-use Rattle.lsys_repair.specs.Answers.{kept_successor, kept_successors}
-use Rattle.lsys_repair.proofs.Nexts.{tag_of}
-use Rattle.lsys_repair.proofs.Depths.{same_kids, all_under}
-use Rattle.lsys_repair.proofs.Families.{level_families}
-use Rattle.lsys_repair.proofs.Replaced.{replaced, replacement_short}
-use Rattle.lsys_repair.proofs.Walks.{each_alone}
-use Rattle.lsys_repair.proofs.Wants.{same_children}
-use Rattle.lsys_repair.specs.Parents.{IsParent, AreParents}
+use Rattle.lsys_reads.specs.Standings.{seen_at}
+use Rattle.lsys_reads.proofs.LevelLemmas.{got_in, place_in}
+use Rattle.lsys_reads.specs.Lineages.{names}
+use Rattle.lsys_reads.specs.Levels.{level_of, AnsweredAt, answer_at}
+use Rattle.lsys_front.specs.Repairs.{Repair, SteppingSpots, now, rest, root, were, are}
+use Rattle.lsys_front.proofs.Spots.{sound_old, sound_new, old_long, new_long}
+use Rattle.lsys_children.specs.Nexts.{Successors, node_symbol, HasWanted, AreClosed}
+use Rattle.lsys_children.specs.Renewals.{AreSmall, KeepsDeeper}
+use Rattle.lsys_children.specs.Answers.{kept_successor, kept_successors}
+use Rattle.lsys_children.proofs.Nexts.{tag_of}
+use Rattle.lsys_children.proofs.Depths.{same_kids, all_under}
+use Rattle.lsys_children.proofs.Families.{level_families}
+use Rattle.lsys_children.proofs.Replaced.{replaced, replacement_short}
+use Rattle.lsys_children.proofs.Walks.{each_alone}
+use Rattle.lsys_children.proofs.Wants.{same_children}
+use Rattle.lsys_children.specs.Parents.{IsParent, AreParents}
 
 -- 1. parents
 
@@ -93,7 +93,7 @@ had_still r k s below h seed numbering closed i j seen answer =
     (subst (λ n. HasWanted r.old.numbering n (now r) k (kept_successors (now r) k)) (sym seed)
     (subst (HasWanted r.old.numbering r.old.seed (now r) k) (stays r k seen answer) old))
 
--- 3. no cut reaches what stands behind
+-- 3. no cut reaches what stands after
 
 closed_each : (by : Successors) (ks : List ℕ) → AreClosed by ks → (k : ℕ) → In k ks → is_open (by k) ≡ false
 closed_each by [] h k i = absurd i

@@ -27,3 +27,17 @@ pub mod BelowLemmas
 pub mod LevelLemmas
 pub mod TurnedLemmas
 pub mod RepairedLemmas
+pub mod AskedThere
+pub mod Spots
+pub mod Nodes
+pub mod Gathering
+pub mod Beside
+pub mod Marking
+pub mod Adding
+pub mod Merging
+pub mod FoundNodes
+pub mod Readers
+pub mod Alike
+pub mod Listed
+pub mod AllAlike
+pub mod KnownRules

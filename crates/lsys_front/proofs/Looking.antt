@@ -3,9 +3,9 @@ use Rattle.std.proofs.Common.{◌≡◌, ◌++◌, ℕ, List, inl, inr, subst}
 use Rattle.lsys_spec.specs.Rows.{In}
 use Rattle.lsys_forest.specs.Groves.{Grove}
 use Rattle.lsys_forest.proofs.RowLemmas.{In_append}
-use Rattle.lsys_kept.specs.Looks.{LooksAround, LooksBeyond, LooksAtMate, LooksInto, IsOnLevelOf, AddsBelow}
-use Rattle.lsys_kept.proofs.SeamLemmas.{around_keep, beyond_keep}
-use Rattle.lsys_kept.proofs.MateLemmas.{mate_keep, into_keep}
+use Rattle.lsys_reads.specs.Looks.{LooksAround, LooksBeyond, LooksAtMate, LooksInto, IsOnLevelOf, AddsBelow}
+use Rattle.lsys_reads.proofs.SeamLemmas.{around_keep, beyond_keep}
+use Rattle.lsys_reads.proofs.MateLemmas.{mate_keep, into_keep}
 use Rattle.lsys_front.specs.Fronts.{StandOn, LooksBelow}
 use Rattle.lsys_front.proofs.Standing.{stand_left, stand_right, stand_levels}
 

@@ -11,9 +11,9 @@ use Rattle.lsys_forest.specs.Groves.{Grove, now_of, rest_of, changes_in, live_no
 use Rattle.lsys_forest.specs.Rows.{spot_in}
 use Rattle.lsys_forest.proofs.RowLemmas.{In_append, In_left, In_right, apart_append}
 use Rattle.lsys_forest.proofs.StockLemmas.{put_same, put_other}
-use Rattle.lsys_kept.proofs.SeamLemmas.{in_taken_next}
-use Rattle.lsys_candidates.proofs.Gathering.{taken_own, taken_more}
-use Rattle.lsys_candidates.proofs.Spots.{is_in}
+use Rattle.lsys_reads.proofs.SeamLemmas.{in_taken_next}
+use Rattle.lsys_front.proofs.Gathering.{taken_own, taken_more}
+use Rattle.lsys_front.proofs.Spots.{is_in}
 use Rattle.lsys_front.specs.Losses.{LosesOnly}
 use Rattle.lsys_front.specs.Asks.{IsIdle, Loses}
 use Rattle.lsys_front.proofs.Losing.{loses_no_answer}

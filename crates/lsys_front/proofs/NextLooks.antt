@@ -7,20 +7,20 @@ use Rattle.lsys_match.specs.Kept.{Kept}
 use Rattle.lsys_forest.specs.Groves.{Grove, IsRooted, changes_in, now_of}
 use Rattle.lsys_forest.specs.Rows.{level_nodes, level_spots, level_of_node}
 use Rattle.lsys_forest.proofs.RowLemmas.{In_append}
-use Rattle.lsys_brood.specs.Children.{ToldNodes, KeepsChildren}
-use Rattle.lsys_kept.specs.Levels.{level_of}
-use Rattle.lsys_repair.specs.Nexts.{Successors, AreLevels, node_symbol}
-use Rattle.lsys_repair.specs.Renewals.{KeepsUpper}
-use Rattle.lsys_repair.proofs.Renewing.{keeps_upper}
-use Rattle.lsys_repair.proofs.Above.{upper_nodes, upper_spots}
-use Rattle.lsys_repair.specs.declared.parent.Parent.{Parent}
-use Rattle.lsys_repair.specs.Parents.{nodes_in}
-use Rattle.lsys_kept.specs.declared.seat.Seat.{Seat}
-use Rattle.lsys_kept.specs.Neighbours.{neighbours_in}
-use Rattle.lsys_kept.specs.Seats.{neighbours_at}
-use Rattle.lsys_kept.specs.Standings.{AreSeated}
-use Rattle.lsys_candidates.specs.Repairs.{Repair, SteppingSpots, now, rest, root, were, are}
-use Rattle.lsys_candidates.proofs.Spots.{sound_new}
+use Rattle.lsys_children.specs.Children.{ToldNodes, KeepsChildren}
+use Rattle.lsys_reads.specs.Levels.{level_of}
+use Rattle.lsys_children.specs.Nexts.{Successors, AreLevels, node_symbol}
+use Rattle.lsys_children.specs.Renewals.{KeepsUpper}
+use Rattle.lsys_children.proofs.Renewing.{keeps_upper}
+use Rattle.lsys_children.proofs.Above.{upper_nodes, upper_spots}
+use Rattle.lsys_children.specs.declared.parent.Parent.{Parent}
+use Rattle.lsys_children.specs.Parents.{nodes_in}
+use Rattle.lsys_reads.specs.declared.seat.Seat.{Seat}
+use Rattle.lsys_reads.specs.Neighbours.{neighbours_in}
+use Rattle.lsys_reads.specs.Seats.{neighbours_at}
+use Rattle.lsys_reads.specs.Standings.{AreSeated}
+use Rattle.lsys_front.specs.Repairs.{Repair, SteppingSpots, now, rest, root, were, are}
+use Rattle.lsys_front.proofs.Spots.{sound_new}
 use Rattle.lsys_front.specs.Turned.{IsSameLevel}
 use Rattle.lsys_front.specs.Remade.{IsNextMade}
 use Rattle.lsys_front.proofs.RepairedLemmas.{remade_looked}

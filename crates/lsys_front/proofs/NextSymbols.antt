@@ -5,25 +5,25 @@ use Rattle.std.proofs.lemmas.List.Sums.{sum_by-append, sum_by-cons}
 use Rattle.std.proofs.lemmas.Option.{same_Some}
 use Rattle.lsys_spec.specs.Rows.{In, AreApart}
 use Rattle.lsys_syntax.specs.Commands.{Numbering}
-use Rattle.lsys_change.specs.Nodes.{Kin}
+use Rattle.lsys_laws.specs.Nodes.{Kin}
 use Rattle.lsys_match.specs.Kept.{Kept}
 use Rattle.lsys_forest.specs.Nodes.{Node, Nodes}
 use Rattle.lsys_forest.specs.Groves.{changes_in}
 use Rattle.lsys_forest.specs.Rows.{kids_in, level_nodes}
 use Rattle.lsys_forest.proofs.RowLemmas.{In_append, In_left, In_right, apart_append, level_apart, level_depth}
-use Rattle.lsys_kept.specs.Lineages.{kin_of}
-use Rattle.lsys_candidates.specs.Found.{LevelChanges, Differs}
-use Rattle.lsys_candidates.specs.Repairs.{Repair, SteppingSpots, now, rest, root, were, are}
-use Rattle.lsys_candidates.proofs.Spots.{is_in, sound_old, sound_new}
-use Rattle.lsys_repair.specs.Nexts.{Successors, HasWanted, AreClosed, wanted_in, wanted_count, count_wanted}
-use Rattle.lsys_repair.specs.Renewals.{KeepsDeeper}
-use Rattle.lsys_repair.specs.Answers.{kept_successors}
-use Rattle.lsys_repair.proofs.Depths.{on_level}
-use Rattle.lsys_repair.proofs.Lengths.{kids_count, below_count, alone_count, other_sums}
-use Rattle.lsys_repair.specs.declared.parent.Parent.{Parent}
-use Rattle.lsys_repair.specs.Parents.{nodes_in, cut_parents, AreToldBy}
-use Rattle.lsys_repair.specs.Needs.{had_by, had_by_all, wanted_of, wanted_of_all}
-use Rattle.lsys_repair.proofs.Walked.{walked_nodes, walked_told}
+use Rattle.lsys_reads.specs.Lineages.{kin_of}
+use Rattle.lsys_front.specs.Found.{LevelChanges, Differs}
+use Rattle.lsys_front.specs.Repairs.{Repair, SteppingSpots, now, rest, root, were, are}
+use Rattle.lsys_front.proofs.Spots.{is_in, sound_old, sound_new}
+use Rattle.lsys_children.specs.Nexts.{Successors, HasWanted, AreClosed, wanted_in, wanted_count, count_wanted}
+use Rattle.lsys_children.specs.Renewals.{KeepsDeeper}
+use Rattle.lsys_children.specs.Answers.{kept_successors}
+use Rattle.lsys_children.proofs.Depths.{on_level}
+use Rattle.lsys_children.proofs.Lengths.{kids_count, below_count, alone_count, other_sums}
+use Rattle.lsys_children.specs.declared.parent.Parent.{Parent}
+use Rattle.lsys_children.specs.Parents.{nodes_in, cut_parents, AreToldBy}
+use Rattle.lsys_children.specs.Needs.{had_by, had_by_all, wanted_of, wanted_of_all}
+use Rattle.lsys_children.proofs.Walked.{walked_nodes, walked_told}
 
 -- 1. sums
 
@@ -34,7 +34,7 @@ no_sum : (ks : List ℕ) → sum_by (λ k. 0) ks ≡ 0
 no_sum [] = refl
 no_sum (k ∷ ks) = let rest = no_sum ks in omega (arith, sum_by-cons (λ (k : ℕ). 0) k ks, rest)
 
--- the level behind one, by the children of its nodes
+-- the level after one, by the children of its nodes
 behind : (m : Nodes Kept) (top t : ℕ) → length (level_nodes m top (t + 1)) ≡ sum_by (kids_at m) (level_nodes m top t)
 behind m top t = let next : t + 1 ≡ suc t = omega arith in ap (λ u. length (level_nodes m top u)) next ∙ below_count m (level_nodes m top t)
 

@@ -10,11 +10,11 @@ use Rattle.lsys_spec.specs.Numbers.{number_at, code_of}
 use Rattle.lsys_spec.specs.Levels as L
 use Rattle.lsys_spec.specs.Cuts.{cut_on, cut}
 use Rattle.lsys_spec.specs.Meaning.{numbered, children}
-use Rattle.lsys_brood.specs.declared.number.Number.{Number}
-use Rattle.lsys_brood.specs.Matches.{same_child_number, has_number}
-use Rattle.lsys_brood.proofs.FoundLemmas.{same_is}
-use Rattle.lsys_brood.proofs.MatchLemmas.{same_self}
-use Rattle.lsys_repair.specs.Needs.{number_from, number_told, wanted_symbols}
+use Rattle.lsys_children.specs.declared.number.Number.{Number}
+use Rattle.lsys_children.specs.Matches.{same_child_number, has_number}
+use Rattle.lsys_children.proofs.FoundLemmas.{same_is}
+use Rattle.lsys_children.proofs.MatchLemmas.{same_self}
+use Rattle.lsys_children.specs.Needs.{number_from, number_told, wanted_symbols}
 
 -- a number as a lineage has it
 abbrev pub own_number : Number → ℕ

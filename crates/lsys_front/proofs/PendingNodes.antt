@@ -7,13 +7,13 @@ use Rattle.lsys_match.specs.Kept.{Kept}
 use Rattle.lsys_forest.specs.Groves.{Grove, IsRooted, now_of, changes_in}
 use Rattle.lsys_forest.specs.Rows.{depth_in, index_in, level_nodes, level_of_node, place_of_node}
 use Rattle.lsys_forest.proofs.RowLemmas.{level_depth}
-use Rattle.lsys_kept.specs.declared.seat.Seat.{Seat}
-use Rattle.lsys_kept.proofs.LevelLemmas.{index_cases}
-use Rattle.lsys_candidates.specs.Repairs.{Repair, are}
-use Rattle.lsys_candidates.specs.Candidates.{was_last, AsksNow, IsCandidateNode}
-use Rattle.lsys_candidates.specs.Found.{LevelChanges, SteppingNodes, IsFound, IsAmong}
-use Rattle.lsys_candidates.specs.Asks.{ArePlaced, AreInOrder, AreSome}
-use Rattle.lsys_candidates.proofs.FoundNodes.{found_asked, found_there}
+use Rattle.lsys_reads.specs.declared.seat.Seat.{Seat}
+use Rattle.lsys_reads.proofs.LevelLemmas.{index_cases}
+use Rattle.lsys_front.specs.Repairs.{Repair, are}
+use Rattle.lsys_front.specs.Candidates.{was_last, AsksNow, IsCandidateNode}
+use Rattle.lsys_front.specs.Found.{LevelChanges, SteppingNodes, IsFound, IsAmong}
+use Rattle.lsys_front.specs.Questioned.{ArePlaced, AreInOrder, AreSome}
+use Rattle.lsys_front.proofs.FoundNodes.{found_asked, found_there}
 
 -- 1. the candidates
 

@@ -1,47 +1,27 @@
 -- Levels of a forest that is being repaired.
 use Rattle.std.proofs.Common.{◌≡◌, ◌<◌, ◌⊎◌, ◌+◌, ℕ, List, [], sym, subst, arith, inl, inr}
 use Rattle.lsys_spec.specs.Rows.{In}
-use Rattle.lsys_change.specs.Seams as S
-use Rattle.lsys_change.proofs.UpTo.{level_count}
-use Rattle.lsys_reads.specs.Relations.{Relations}
-use Rattle.lsys_kept.specs.Meant.{levels_meant}
-use Rattle.lsys_repair.specs.Nexts.{AreLevels}
-use Rattle.lsys_repair.specs.Answers.{kept_successors}
-use Rattle.lsys_repair.proofs.Replaced.{replaced}
-use Rattle.lsys_kept.specs.declared.seat.Seat.{Seat}
-use Rattle.lsys_candidates.specs.Found.{LevelChanges}
-use Rattle.lsys_candidates.specs.Repairs.{Repair, SteppingSpots, rest, root, were, are}
-use Rattle.lsys_candidates.specs.Found.{IsFound, SteppingNodes}
-use Rattle.lsys_candidates.proofs.Spots.{is_in, sound_old, sound_new}
-use Rattle.lsys_candidates.proofs.FoundNodes.{found_seated}
+use Rattle.lsys_laws.proofs.UpTo.{level_count}
+use Rattle.lsys_reads.specs.Meant.{levels_meant}
+use Rattle.lsys_children.specs.Nexts.{AreLevels}
+use Rattle.lsys_children.specs.Answers.{kept_successors}
+use Rattle.lsys_children.proofs.Replaced.{replaced}
+use Rattle.lsys_reads.specs.declared.seat.Seat.{Seat}
+use Rattle.lsys_front.specs.Repairs.{Repair, SteppingSpots, rest, root, were}
+use Rattle.lsys_front.proofs.Spots.{sound_old}
 use Rattle.lsys_match.specs.Kept.{Kept}
 use Rattle.lsys_forest.specs.Groves.{Grove, now_of}
 use Rattle.lsys_forest.specs.Rows.{level_nodes}
-use Rattle.lsys_brood.specs.Children.{KeepsChildren}
-use Rattle.lsys_repair.specs.Nexts.{Successors}
-use Rattle.lsys_kept.specs.Neighbours.{neighbours_in}
-use Rattle.lsys_kept.specs.Seats.{neighbours_at}
-use Rattle.lsys_kept.specs.Standings.{AreSeated}
+use Rattle.lsys_children.specs.Children.{KeepsChildren}
+use Rattle.lsys_children.specs.Nexts.{Successors}
+use Rattle.lsys_reads.specs.Neighbours.{neighbours_in}
+use Rattle.lsys_reads.specs.Seats.{neighbours_at}
+use Rattle.lsys_reads.specs.Standings.{AreSeated}
 use Rattle.lsys_front.specs.Below.{AreLeftLevels, KeepsFamily, AreLookedBelow}
 use Rattle.lsys_front.specs.Remade.{IsNextMade}
 use Rattle.lsys_front.proofs.TurnedLemmas.{family_kept, old_there, seats_told, same_turned, looked_below}
 use Rattle.lsys_front.specs.Turned.{AreTurnedBy}
 use Rattle.lsys_front.proofs.LevelLemmas.{left_levels}
-
-pub found_turned : (r : Repair) (seats : List Seat) (reads : Relations) (c : LevelChanges) (others turned beside readers all : List ℕ) → SteppingNodes r seats reads c others
-    → IsFound r.forest seats reads c turned beside readers → ((k : ℕ) → In k c.came ⊎ In k turned → In k all) → AreTurnedBy (rest r) r.forest r.level seats all
-found_turned r seats reads c others turned beside readers all s f among = record {
-  sound = sound_new r s.spots;
-  seated = s.seated;
-  there = λ k i away. there k i away;
-  same = λ k i away. found_seated r seats reads c others turned beside readers s f k i (λ h. away (among k (inl h))) (λ h. away (among k (inr h)));
-}
-  where
-    there : (k : ℕ) → In k (are r) → (In k all → ⊥) → In k (were r)
-    there k i away = elim (is_in k (were r)) [
-      | inl h ↦ h
-      | inr none ↦ absurd (away (among k (inl ((s.differs.came k).1 (i, none)))))
-    ]
 
 pub rested_levels : (r : Repair) → SteppingSpots r → r.level < r.old.depth → AreLeftLevels (rest r) (root r) r.level
 rested_levels r s below =

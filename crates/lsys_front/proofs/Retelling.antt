@@ -9,7 +9,7 @@ use Rattle.lsys_spec.specs.Bodies.{Body, group}
 use Rattle.lsys_spec.specs.Levels.{ModuleValue, LevelSymbol, lineage, Step, Items, way, items_from}
 use Rattle.lsys_spec.specs.Levels as L
 use Rattle.lsys_spec.specs.LevelLaws.{StandsIn}
-use Rattle.lsys_spec.specs.Walks.{Mark, Entry, Told, lineages_named}
+use Rattle.lsys_spec.specs.Walks.{Entry, Told, lineages_named}
 use Rattle.lsys_spec.specs.Walks as W
 use Rattle.lsys_spec.specs.Choice.{Choice, Asking, choice}
 use Rattle.lsys_spec.specs.Meaning.{most_entries, any_weight, key_for, asking, asked, successor_by}

@@ -4,8 +4,8 @@ use Rattle.std.specs.Prelude.{IsSome, option_map}
 use Rattle.std.specs.Option.{option_and_then}
 use Rattle.std.proofs.lemmas.Option.{none-some}
 use Rattle.lsys_spec.specs.Rows.{In}
-use Rattle.lsys_change.specs.Nodes.{Kin}
-use Rattle.lsys_change.specs.Seams.{node_before}
+use Rattle.lsys_laws.specs.Nodes.{Kin}
+use Rattle.lsys_laws.specs.Seams.{node_before}
 use Rattle.lsys_reads.specs.Relations.{Relations, is_settled}
 use Rattle.lsys_match.specs.Kept.{Kept}
 use Rattle.lsys_forest.specs.Nodes.{Node}
@@ -15,16 +15,16 @@ use Rattle.lsys_forest.specs.Rows.{complete_levels, level_of_node, place_of_node
 use Rattle.lsys_forest.proofs.RowLemmas.{level_depth}
 use Rattle.lsys_forest.proofs.SoundLemmas.{some_of}
 use Rattle.lsys_forest.proofs.ViewLemmas.{are_told}
-use Rattle.lsys_kept.specs.Lineages.{kin_of}
-use Rattle.lsys_kept.specs.Levels.{HasRead}
-use Rattle.lsys_kept.specs.declared.seat.Seat.{Seat}
-use Rattle.lsys_kept.specs.Neighbours.{IsOnLevel, level_around}
-use Rattle.lsys_kept.specs.Seats.{HasSeat}
-use Rattle.lsys_kept.proofs.LevelLemmas.{got_in}
-use Rattle.lsys_candidates.specs.Repairs.{Repair, SteppingSpots, now, rest, root, were, are}
-use Rattle.lsys_candidates.specs.Finds.{IsBeside}
-use Rattle.lsys_candidates.specs.Found.{LevelChanges, Differs, AreOnLevels, HasSeatsForFound}
-use Rattle.lsys_candidates.proofs.Spots.{sound_old, sound_new, new_long}
+use Rattle.lsys_reads.specs.Lineages.{kin_of}
+use Rattle.lsys_reads.specs.Levels.{HasRead}
+use Rattle.lsys_reads.specs.declared.seat.Seat.{Seat}
+use Rattle.lsys_reads.specs.Neighbours.{IsOnLevel, level_around}
+use Rattle.lsys_reads.specs.Seats.{HasSeat}
+use Rattle.lsys_reads.proofs.LevelLemmas.{got_in}
+use Rattle.lsys_front.specs.Repairs.{Repair, SteppingSpots, now, rest, root, were, are}
+use Rattle.lsys_front.specs.Finds.{IsBeside}
+use Rattle.lsys_front.specs.Found.{LevelChanges, Differs, AreOnLevels, HasSeatsForFound}
+use Rattle.lsys_front.proofs.Spots.{sound_old, sound_new, new_long}
 use Rattle.lsys_front.proofs.Standing.{live_at, spot_at}
 
 pub before_in : (xs : List ℕ) (q j : ℕ) → node_before xs q ≡ Some j → In j xs

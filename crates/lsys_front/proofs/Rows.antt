@@ -1,14 +1,14 @@
--- Lists of nodes: one behind the other, those that pass a test, and what is sure of lists and kinds that are not other ones.
+-- Lists of nodes: one after the other, those that pass a test, and what is sure of lists and kinds that are not other ones.
 use Rattle.std.proofs.Common.{◌≡◌, ◌⊎◌, ℕ, Bool, true, false, cond, List, [], ◌∷◌, ◌++◌, Option, Some, None, refl, sym, ap, ◌∙◌, subst, inl, inr}
 use Rattle.std.proofs.lemmas.Bool.{cases_eq}
 use Rattle.lsys_spec.specs.Rows.{In, AreApart, flat}
-use Rattle.lsys_change.specs.Kinds.{BracketKind, Opens, Closes, Neither}
+use Rattle.lsys_laws.specs.Kinds.{BracketKind, Opens, Closes, Neither}
 use Rattle.lsys_forest.specs.Nodes.{Nodes}
 use Rattle.lsys_forest.proofs.RowLemmas as rows
-use Rattle.lsys_brood.specs.declared.number.Number.{Number}
-use Rattle.lsys_brood.specs.Matches.{number_of, nodes_where}
+use Rattle.lsys_children.specs.declared.number.Number.{Number}
+use Rattle.lsys_children.specs.Matches.{number_of, nodes_where}
 
--- 1. one list behind the other
+-- 1. one list after the other
 
 pub in_flat : (f : ℕ → List ℕ) (xs : List ℕ) (p k : ℕ) → In p xs → In k (f p) → In k (flat f xs)
 in_flat f xs p k i l =

@@ -151,9 +151,3 @@ module _ {A : Type 0} where
 
   pub answered_apart : (m : Nodes A) (nodes : List ℕ) → AreApart nodes → AreApart (answered_in m nodes)
   answered_apart m nodes a = filter_apart (is_answered m) nodes a
-
-  pub rows_are : (m : Nodes A) (n : ℕ) (nodes : List ℕ) (k : ℕ) → In k (rows_from m n nodes) ↔ ((i : ℕ) × (i < n) × In k (row_below m i nodes))
-  rows_are m n nodes k = (rows_row m n nodes k, λ h. row_rows m n nodes k h.0 h.1 h.2)
-
-  pub deep_apart : (root : ℕ) (changes : List (Change A)) (m : Nodes A) (n depth : ℕ) (nodes : List ℕ) → IsRooted root changes m → AreDeep m depth nodes → AreApart nodes → AreApart (rows_from m n nodes)
-  deep_apart root changes m n depth nodes sound deep a = rows_apart root changes m sound n depth nodes deep a

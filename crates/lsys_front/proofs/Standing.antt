@@ -7,7 +7,7 @@ use Rattle.lsys_forest.specs.Groves.{Grove, IsLive, IsRooted, changes_in, now_of
 use Rattle.lsys_forest.specs.Rows.{depth_in, level_nodes, complete_levels, level_of_node, place_of_node, IsAtSpot}
 use Rattle.lsys_forest.proofs.RowLemmas.{In_left, In_right, In_split, level_depth}
 use Rattle.lsys_forest.proofs.ViewLemmas.{is_spot}
-use Rattle.lsys_kept.specs.Looks.{IsOnLevelOf}
+use Rattle.lsys_reads.specs.Looks.{IsOnLevelOf}
 use Rattle.lsys_front.specs.Fronts.{StandOn}
 
 module _ {A : Type 0} where

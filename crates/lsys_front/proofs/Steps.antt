@@ -6,25 +6,25 @@ use Rattle.lsys_spec.specs.Rows.{In, AreApart, flat}
 use Rattle.lsys_syntax.specs.Commands.{Numbering}
 use Rattle.lsys_spec.specs.Draws.{number_base}
 use Rattle.lsys_spec.specs.Levels as L
-use Rattle.lsys_change.specs.Nodes.{Kin, Extends, kin_parent}
-use Rattle.lsys_change.proofs.Lineages.{apart, child}
+use Rattle.lsys_laws.specs.Nodes.{Kin, Extends, kin_parent}
+use Rattle.lsys_laws.proofs.KeptLineages.{apart, child}
 use Rattle.lsys_forest.specs.Nodes.{Node, Nodes, with_kids}
 use Rattle.lsys_forest.specs.Changes.{Change}
 use Rattle.lsys_forest.specs.Groves.{IsRooted}
 use Rattle.lsys_forest.specs.Rows.{kids_in, kids_below, spot_in}
 use Rattle.lsys_forest.proofs.RowLemmas as rows
-use Rattle.lsys_brood.specs.declared.number.Number.{Number}
-use Rattle.lsys_brood.specs.declared.child.Child.{Child}
-use Rattle.lsys_brood.specs.Matches.{has_number, node_number, number_of, nodes_without}
-use Rattle.lsys_brood.specs.Children.{born, renewed, seen_in_node, kind_in_node, IsNewNode, HasTurned, KeepsChildren}
-use Rattle.lsys_kept.specs.Lineages.{kin_of, kins, names}
-use Rattle.lsys_kept.specs.Standings.{seen_at}
-use Rattle.lsys_repair.specs.Nexts.{Successors, node_symbol}
-use Rattle.lsys_repair.specs.Renewals.{Renewal, stayed, relisted, turned, came, AreRenewals, KeepsDeeper}
-use Rattle.lsys_repair.proofs.Nexts.{lineage_at}
-use Rattle.lsys_repair.proofs.Renewing.{in_cases, parent_stays}
-use Rattle.lsys_repair.specs.Made.{IsChildOfAny}
-use Rattle.lsys_repair.specs.Needs.{number_told, wanted_symbols}
+use Rattle.lsys_children.specs.declared.number.Number.{Number}
+use Rattle.lsys_children.specs.declared.child.Child.{Child}
+use Rattle.lsys_children.specs.Matches.{has_number, node_number, number_of, nodes_without}
+use Rattle.lsys_children.specs.Children.{born, renewed, seen_in_node, kind_in_node, IsNewNode, HasTurned, KeepsChildren}
+use Rattle.lsys_reads.specs.Lineages.{kin_of, kins, names}
+use Rattle.lsys_reads.specs.Standings.{seen_at}
+use Rattle.lsys_children.specs.Nexts.{Successors, node_symbol}
+use Rattle.lsys_children.specs.Renewals.{Renewal, stayed, relisted, turned, came, AreRenewals, KeepsDeeper}
+use Rattle.lsys_children.proofs.Nexts.{lineage_at}
+use Rattle.lsys_children.proofs.Renewing.{in_cases, parent_stays}
+use Rattle.lsys_children.specs.Made.{IsChildOfAny}
+use Rattle.lsys_children.specs.Needs.{number_told, wanted_symbols}
 use Rattle.lsys_front.proofs.Numbers.{own_number, told_below, lineages_told, has_told, told_has}
 use Rattle.lsys_front.proofs.Rows.{flat_owned, where_in, in_where, where_apart, not_other_list, not_other_kind}
 

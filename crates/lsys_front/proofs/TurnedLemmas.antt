@@ -5,25 +5,24 @@ use Rattle.std.specs.Option.{option_and_then}
 use Rattle.lsys_spec.specs.Levels as L
 use Rattle.lsys_spec.specs.Standings.{mate_at}
 use Rattle.lsys_level.specs.Spots.{level_by}
-use Rattle.lsys_change.specs.Seams.{node_before}
+use Rattle.lsys_laws.specs.Seams.{node_before}
 use Rattle.std.proofs.lemmas.Bool.{cases_eq}
 use Rattle.std.proofs.lemmas.Option.{same_Some}
 use Rattle.lsys_spec.specs.Rows.{In, first_in, flat}
-use Rattle.lsys_change.specs.Kinds.{BracketKind}
-use Rattle.lsys_change.specs.Seams as S
+use Rattle.lsys_laws.specs.Kinds.{BracketKind}
 use Rattle.lsys_forest.specs.Nodes.{Node, Nodes}
 use Rattle.lsys_forest.specs.Changes.{Change}
 use Rattle.lsys_forest.specs.Groves.{Grove, IsRooted, changes_in, now_of}
 use Rattle.lsys_forest.specs.Rows.{index_in, spot_in, depth_in, kids_in, level_nodes, level_of_node}
 use Rattle.lsys_forest.proofs.RowLemmas.{child, level_depth, level_apart}
-use Rattle.lsys_brood.specs.Children.{bracket_kind, kind_in_node, kind_at, KeepsChildren}
-use Rattle.lsys_repair.specs.Nexts.{node_kind}
-use Rattle.lsys_kept.specs.declared.seat.Seat.{Seat}
-use Rattle.lsys_kept.specs.Neighbours.{neighbours_in, neighbours_on, mate_on}
-use Rattle.lsys_kept.specs.Seats.{neighbours_at}
-use Rattle.lsys_kept.specs.Standings.{AreSeated}
-use Rattle.lsys_kept.specs.Looks.{kids_of_level}
-use Rattle.lsys_kept.proofs.LevelLemmas.{place_in, got_in}
+use Rattle.lsys_children.specs.Children.{bracket_kind, kind_in_node, kind_at, KeepsChildren}
+use Rattle.lsys_children.specs.Nexts.{node_kind}
+use Rattle.lsys_reads.specs.declared.seat.Seat.{Seat}
+use Rattle.lsys_reads.specs.Neighbours.{neighbours_in, neighbours_on, mate_on}
+use Rattle.lsys_reads.specs.Seats.{neighbours_at}
+use Rattle.lsys_reads.specs.Standings.{AreSeated}
+use Rattle.lsys_reads.specs.Looks.{kids_of_level}
+use Rattle.lsys_reads.proofs.LevelLemmas.{place_in, got_in}
 use Rattle.lsys_front.specs.Below.{kids_at, KeepsFamily, AreLookedBelow}
 use Rattle.lsys_front.specs.Turned.{AreTurnedBy, IsSameLevel}
 use Rattle.lsys_front.proofs.BelowLemmas.{stays}

@@ -17,20 +17,20 @@ use Rattle.lsys_match.specs.Kept.{Kept}
 use Rattle.lsys_match.specs.Answered.{place_chosen}
 use Rattle.lsys_match.specs.Asks.{IsAnswer, IsNamedAt, by_definition}
 use Rattle.lsys_match.specs.Stored.{answer_in}
-use Rattle.lsys_change.specs.Passes.{module_question, is_candidate_at}
-use Rattle.lsys_change.proofs.Asked.{IsOld, not_needed}
-use Rattle.lsys_change.proofs.Faultless.{level_below}
+use Rattle.lsys_laws.specs.Passes.{module_question, is_candidate_at}
+use Rattle.lsys_laws.proofs.Asked.{IsOld, not_needed}
+use Rattle.lsys_laws.proofs.Faultless.{level_below}
 use Rattle.lsys_forest.specs.Nodes.{Nodes}
 use Rattle.lsys_forest.specs.Rows.{spot_in, level_spots}
-use Rattle.lsys_kept.specs.Lineages.{names}
-use Rattle.lsys_kept.specs.Levels.{IsRight, IsKeptFor, answer_at}
-use Rattle.lsys_kept.specs.Standings.{seen_at}
-use Rattle.lsys_kept.proofs.LevelLemmas.{named_by_number, lineage_named, symbol_at, got_in}
-use Rattle.lsys_candidates.specs.Repairs.{Repair, now, rest, root, were, are, SteppingSpots}
-use Rattle.lsys_candidates.specs.Candidates.{IsCandidateNode}
-use Rattle.lsys_candidates.proofs.Gathering.{marked_or_not}
-use Rattle.lsys_candidates.proofs.Nodes.{kept_for, seen_back, tag_is, stands_now, spot_there, key_there, answered_as, differs}
-use Rattle.lsys_candidates.proofs.Spots.{xs, ys, name, was_level, is_level, old_there, old_long, new_long, new_there, old_derived, new_derived, one_node}
+use Rattle.lsys_reads.specs.Lineages.{names}
+use Rattle.lsys_reads.specs.Levels.{IsRight, IsKeptFor, answer_at}
+use Rattle.lsys_reads.specs.Standings.{seen_at}
+use Rattle.lsys_reads.proofs.LevelLemmas.{named_by_number, lineage_named, symbol_at, got_in}
+use Rattle.lsys_front.specs.Repairs.{Repair, now, rest, root, were, are, SteppingSpots}
+use Rattle.lsys_front.specs.Candidates.{IsCandidateNode}
+use Rattle.lsys_front.proofs.Gathering.{marked_or_not}
+use Rattle.lsys_front.proofs.Nodes.{kept_for, seen_back, tag_is, stands_now, spot_there, key_there, answered_as, differs}
+use Rattle.lsys_front.proofs.Spots.{xs, ys, name, was_level, is_level, old_there, old_long, new_long, new_there, old_derived, new_derived, one_node}
 use Rattle.lsys_front.proofs.Retelling.{still_right}
 
 -- an answer where it is kept

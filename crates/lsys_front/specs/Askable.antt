@@ -5,10 +5,10 @@ use Rattle.lsys_spec.specs.Rows.{In}
 use Rattle.lsys_spec.specs.Systems.{System}
 use Rattle.lsys_reads.specs.Relations.{Relations}
 use Rattle.lsys_forest.specs.Groves.{Grove, now_of}
-use Rattle.lsys_kept.specs.declared.seat.Seat.{Seat}
-use Rattle.lsys_candidates.specs.Candidates.{AsksOn}
-use Rattle.lsys_candidates.specs.Finds.{Gathers}
-use Rattle.lsys_candidates.specs.Found.{IsFound}
+use Rattle.lsys_reads.specs.declared.seat.Seat.{Seat}
+use Rattle.lsys_front.specs.Candidates.{AsksOn}
+use Rattle.lsys_front.specs.Finds.{Gathers}
+use Rattle.lsys_front.specs.Found.{IsFound}
 use Rattle.lsys_front.specs.declared.asks.Found.{Found}
 use Rattle.lsys_front.specs.Fronts.{Differences}
 use Rattle.lsys_front.specs.Asks.{MayBeAsked}

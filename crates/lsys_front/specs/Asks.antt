@@ -7,11 +7,11 @@ use Rattle.lsys_forest.specs.Nodes.{Nodes, with_answer}
 use Rattle.lsys_forest.specs.Answers.{answer_of}
 use Rattle.lsys_forest.specs.Groves.{Grove, IsLive}
 use Rattle.lsys_forest.specs.Rows.{level_of_node, IsAtSpot}
-use Rattle.lsys_kept.specs.Levels.{AnsweredAt, answer_at, level_of}
-use Rattle.lsys_kept.specs.Meant.{IsCandidate, IsNeeded}
-use Rattle.lsys_candidates.specs.Repairs.{Repair, now, rest, root}
-use Rattle.lsys_candidates.specs.Candidates.{AsksOn}
-use Rattle.lsys_candidates.specs.Found.{IsAmong}
+use Rattle.lsys_reads.specs.Levels.{AnsweredAt, answer_at, level_of}
+use Rattle.lsys_reads.specs.Meant.{IsCandidate, IsNeeded}
+use Rattle.lsys_front.specs.Repairs.{Repair, now, rest, root}
+use Rattle.lsys_front.specs.Candidates.{AsksOn}
+use Rattle.lsys_front.specs.Found.{IsAmong}
 use Rattle.lsys_front.specs.Fronts.{Differences}
 
 -- 1. a level
@@ -49,7 +49,7 @@ module _ {A : Type 0} where
     pub keeps : IsSome (option_and_then answer_of (m k))
     pub unasked : AsksOn s t m k → ⊥
 
-  -- Those of these nodes that kept an answer without a question keep none now, and came behind two lists. No other node changed.
+  -- Those of these nodes that kept an answer without a question keep none now, and came after two lists. No other node changed.
   pub record Loses (s : System) (t : ℕ) (old new : Nodes A) (nodes bare bare' dropped dropped' : List ℕ) : Type 0 where
     pub lost : List ℕ
     pub bare_is : bare' ≡ bare ++ lost

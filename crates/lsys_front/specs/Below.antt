@@ -2,12 +2,12 @@
 use Rattle.std.specs.Prelude.{◌≡◌, ◌⊎◌, ℕ, List, Some, slice_get}
 use Rattle.lsys_spec.specs.Rows.{In, flat}
 use Rattle.lsys_spec.specs.Levels.{IsLevel}
-use Rattle.lsys_change.specs.Mates.{AgreeOn, AreBalanced}
+use Rattle.lsys_laws.specs.Mates.{AgreeOn, AreBalanced}
 use Rattle.lsys_forest.specs.Nodes.{Nodes}
 use Rattle.lsys_forest.specs.Groves.{Grove, now_of}
 use Rattle.lsys_forest.specs.Rows.{kids_in, level_nodes, level_of_node}
-use Rattle.lsys_kept.specs.Neighbours.{numbered_level, neighbours_on}
-use Rattle.lsys_kept.specs.Looks.{LooksAround, LooksBeyond, LooksAtMate, LooksInto, kind_in}
+use Rattle.lsys_reads.specs.Neighbours.{numbered_level, neighbours_on}
+use Rattle.lsys_reads.specs.Looks.{LooksAround, LooksBeyond, LooksAtMate, LooksInto, kind_in}
 use Rattle.lsys_front.specs.Generations.{IsLeftLevel}
 
 module _ {A : Type 0} where

@@ -1,4 +1,4 @@
--- Answers and children that nodes lose, and the lists behind which they come.
+-- Answers and children that nodes lose, and the lists after which they come.
 use Rattle.std.specs.Prelude.{◌≡◌, ℕ, List, [], ◌++◌, Vec, None, Some}
 use Rattle.std.specs.declared.alloc.Global.{Global}
 use Rattle.lsys_spec.specs.Rows.{In}
@@ -8,11 +8,11 @@ use Rattle.lsys_forest.specs.Rows.{kids_below}
 use Rattle.lsys_front.specs.Ends.{answered_in, rows_from}
 
 module _ {A : Type 0} where
-  -- the children of these nodes came behind a list, in order
+  -- the children of these nodes came after a list, in order
   abbrev pub AddsKids : Grove A → List ℕ → Vec ℕ Global → Vec ℕ Global → Type 0
   AddsKids f nodes old new = new.items ≡ old.items ++ kids_below (now_of f) nodes
 
-  -- those of these nodes that keep an answer came behind a list
+  -- those of these nodes that keep an answer came after a list
   abbrev pub DropsOf : Grove A → List ℕ → Vec ℕ Global → Vec ℕ Global → Type 0
   DropsOf f nodes old new = new.items ≡ old.items ++ answered_in (now_of f) nodes
 

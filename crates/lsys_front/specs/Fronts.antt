@@ -4,19 +4,19 @@ use Rattle.lsys_spec.specs.Rows.{In, AreApart}
 use Rattle.lsys_match.specs.Kept.{Kept}
 use Rattle.lsys_forest.specs.Groves.{Grove, AreSound, IsRooted, now_of, rest_of, changes_in}
 use Rattle.lsys_forest.specs.Rows.{kids_in, kids_below, level_nodes, complete_levels}
-use Rattle.lsys_brood.specs.Children.{ToldNodes}
-use Rattle.lsys_brood.specs.Matches.{nodes_without}
-use Rattle.lsys_kept.specs.Levels.{answer_at}
-use Rattle.lsys_repair.specs.Nexts.{Successors}
-use Rattle.lsys_repair.specs.Renewals.{AreRenewals}
-use Rattle.lsys_repair.specs.declared.parent.Parent.{Parent}
-use Rattle.lsys_repair.specs.Parents.{nodes_in, AreToldBy}
-use Rattle.lsys_repair.specs.Needs.{number_told, wanted_symbols}
-use Rattle.lsys_repair.specs.Made.{TellsAllOf, gone_of}
-use Rattle.lsys_kept.specs.declared.seat.Seat.{Seat}
-use Rattle.lsys_kept.specs.Looks.{LooksAround, LooksBeyond, LooksAtMate, LooksInto}
-use Rattle.lsys_candidates.specs.Repairs.{Repair, now, rest, root, are}
-use Rattle.lsys_candidates.specs.Found.{LevelChanges, Differs}
+use Rattle.lsys_children.specs.Children.{ToldNodes}
+use Rattle.lsys_children.specs.Matches.{nodes_without}
+use Rattle.lsys_reads.specs.Levels.{answer_at}
+use Rattle.lsys_children.specs.Nexts.{Successors}
+use Rattle.lsys_children.specs.Renewals.{AreRenewals}
+use Rattle.lsys_children.specs.declared.parent.Parent.{Parent}
+use Rattle.lsys_children.specs.Parents.{nodes_in, AreToldBy}
+use Rattle.lsys_children.specs.Needs.{number_told, wanted_symbols}
+use Rattle.lsys_children.specs.Made.{TellsAllOf, gone_of}
+use Rattle.lsys_reads.specs.declared.seat.Seat.{Seat}
+use Rattle.lsys_reads.specs.Looks.{LooksAround, LooksBeyond, LooksAtMate, LooksInto}
+use Rattle.lsys_front.specs.Repairs.{Repair, now, rest, root, are}
+use Rattle.lsys_front.specs.Found.{LevelChanges, Differs}
 use Rattle.lsys_front.specs.Turned.{AreTurnedBy}
 
 -- 1. a front

@@ -1,15 +1,15 @@
 -- What cuts left of the children of a level, and which of its nodes have any.
 use Rattle.std.specs.Prelude.{◌≡◌, ℕ, Bool, true, false, List, [], ◌∷◌, ◌++◌, Option, None, if◌then◌else◌}
 use Rattle.lsys_spec.specs.Rows.{AreApart, flat}
-use Rattle.lsys_change.specs.Kinds.{BracketKind, stays, reached}
-use Rattle.lsys_change.specs.Mates.{AreBalanced, AreOwn, Generation}
+use Rattle.lsys_laws.specs.Kinds.{BracketKind, stays, reached}
+use Rattle.lsys_laws.specs.Mates.{AreBalanced, AreOwn, Generation}
 
 -- the children of a node where they stay, and where they are cut off
 abbrev pub IsLeft : (ℕ → BracketKind) → Bool → BracketKind → List ℕ → Type 0
 IsLeft kind true k ks = AreOwn kind k ks
 IsLeft kind false k ks = ks ≡ []
 
--- Nodes with the children that cuts left them: of some a cut reaches what stands behind them, and where a branch is being cut off
+-- Nodes with the children that cuts left them: of some a cut reaches what stands after them, and where a branch is being cut off
 -- there are no children.
 abbrev pub AreLeft : (ℕ → BracketKind) → (ℕ → List ℕ) → Option ℕ → List ℕ → Type 0
 AreLeft kind own o [] = Unit {0}

@@ -1,16 +1,16 @@
--- The last level that a repair makes, and what was on it and behind it at the last rest.
+-- The last level that a repair makes, and what was on it and after it at the last rest.
 use Rattle.std.specs.Prelude.{◌≡◌, ◌↔◌, ◌⊎◌, ◌+◌, ◌-◌, ◌<◌, ◌≤◌, ◌++◌, ℕ, List, [], Some, None, IsSome}
 use Rattle.lsys_spec.specs.Rows.{In, AreApart}
 use Rattle.lsys_forest.specs.Nodes.{Nodes}
 use Rattle.lsys_forest.specs.Groves.{Reached}
 use Rattle.lsys_forest.specs.Rows.{kids_below, level_nodes, level_spots}
 use Rattle.lsys_match.specs.Kept.{Kept}
-use Rattle.lsys_kept.specs.Lineages.{kins}
-use Rattle.lsys_kept.specs.Levels.{HaveLevels, answer_at}
-use Rattle.lsys_kept.specs.Meant.{meant_to}
-use Rattle.lsys_repair.specs.Renewals.{AreSmall, KeepsUpper, KeepsDeeper}
-use Rattle.lsys_candidates.specs.Repairs.{Repair, now, rest, root, are, SteppingSpots}
-use Rattle.lsys_candidates.specs.Found.{LevelChanges, Differs}
+use Rattle.lsys_reads.specs.Lineages.{kins}
+use Rattle.lsys_reads.specs.Levels.{HaveLevels, answer_at}
+use Rattle.lsys_reads.specs.Meant.{meant_to}
+use Rattle.lsys_children.specs.Renewals.{AreSmall, KeepsUpper, KeepsDeeper}
+use Rattle.lsys_front.specs.Repairs.{Repair, now, rest, root, are, SteppingSpots}
+use Rattle.lsys_front.specs.Found.{LevelChanges, Differs}
 use Rattle.lsys_front.specs.Ends.{answered_in, row_below, rows_from}
 
 -- 1. the level ends
@@ -30,7 +30,7 @@ pub record IsLevelEnded (r : Repair) (m : Nodes Kept) : Type 0 where
   pub kin : (k : ℕ) → kins m k ≡ kins (now r) k
   pub small : AreSmall (now r) → AreSmall m
 
--- The old system has no level behind this one. At the last rest nothing was below its last level, whose nodes kept no answers; and a
+-- The old system has no level after this one. At the last rest nothing was below its last level, whose nodes kept no answers; and a
 -- node of this level keeps the answer that it kept then, or none.
 pub record IsBehindAll (r : Repair) : Type 0 where
   pub deeper : KeepsDeeper (rest r) (now r) (r.level + 1)
@@ -41,7 +41,7 @@ pub record IsBehindAll (r : Repair) : Type 0 where
   pub same : (k : ℕ) → In k (are r)
       → (answer_at (now r) k ≡ None) ⊎ (answer_at (now r) k ≡ answer_at (rest r) k)
 
--- 2. what was behind it
+-- 2. what was after it
 
 -- It is told how the level of the repair differs, and what lies deeper is as at the last rest.
 pub record IsLastLevel (r : Repair) (c : LevelChanges) : Type 0 where
@@ -54,7 +54,7 @@ pub record IsLastLevel (r : Repair) (c : LevelChanges) : Type 0 where
 abbrev pub all_below : Repair → LevelChanges → List ℕ
 all_below r c = kids_below (now r) (are r) ++ kids_below (now r) c.gone
 
--- At the last rest the node was on a level behind this one, at most the last of the old system, and kept an answer.
+-- At the last rest the node was on a level after this one, at most the last of the old system, and kept an answer.
 pub record HadAnswerBehind (r : Repair) (k : ℕ) : Type 0 where
   pub level : ℕ
   pub behind : r.level < level
@@ -63,7 +63,7 @@ pub record HadAnswerBehind (r : Repair) (k : ℕ) : Type 0 where
   pub answer : Kept
   pub kept : answer_at (rest r) k ≡ Some answer
 
--- By the nodes m, those children and the nodes below them, row by row, are the levels that were behind this one at the last rest.
+-- By the nodes m, those children and the nodes below them, row by row, are the levels that were after this one at the last rest.
 -- None of them is reached from the root. Down to the last level of the old system, those that keep an answer are those that kept
 -- one then. The children of the nodes that are gone are as they were.
 pub record HasAllBehind (r : Repair) (c : LevelChanges) (m : Nodes Kept) : Type 0 where

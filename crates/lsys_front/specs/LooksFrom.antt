@@ -3,9 +3,9 @@ use Rattle.std.specs.Prelude.{ℕ, Bool, List, [], ◌++◌, Vec, IsTrue}
 use Rattle.std.specs.declared.alloc.Global.{Global}
 use Rattle.lsys_forest.specs.Groves.{Grove, now_of}
 use Rattle.lsys_forest.specs.Rows.{level_nodes}
-use Rattle.lsys_brood.specs.Children.{ToldNodes}
-use Rattle.lsys_kept.specs.Looks.{AddsBelow}
-use Rattle.lsys_candidates.specs.Found.{LevelChanges}
+use Rattle.lsys_children.specs.Children.{ToldNodes}
+use Rattle.lsys_reads.specs.Looks.{AddsBelow}
+use Rattle.lsys_front.specs.Found.{LevelChanges}
 use Rattle.lsys_front.specs.Fronts.{Differences, StandOn, LooksBelow}
 
 -- the nodes that came or turned

@@ -5,11 +5,11 @@ use Rattle.lsys_spec.specs.Rows.{In}
 use Rattle.lsys_match.specs.Kept.{Kept}
 use Rattle.lsys_forest.specs.Groves.{Grove, IsRooted, changes_in, now_of}
 use Rattle.lsys_forest.specs.Rows.{level_nodes, level_of_node}
-use Rattle.lsys_brood.specs.Children.{KeepsChildren}
-use Rattle.lsys_kept.specs.Levels.{level_of}
-use Rattle.lsys_repair.specs.Nexts.{Successors, AreLevels, node_symbol}
-use Rattle.lsys_kept.specs.Looks.{LooksAround, LooksBeyond, LooksAtMate, LooksInto}
-use Rattle.lsys_candidates.specs.Repairs.{Repair, rest, were}
+use Rattle.lsys_children.specs.Children.{KeepsChildren}
+use Rattle.lsys_reads.specs.Levels.{level_of}
+use Rattle.lsys_children.specs.Nexts.{Successors, AreLevels, node_symbol}
+use Rattle.lsys_reads.specs.Looks.{LooksAround, LooksBeyond, LooksAtMate, LooksInto}
+use Rattle.lsys_front.specs.Repairs.{Repair, rest, were}
 use Rattle.lsys_front.specs.Turned.{IsSameLevel}
 
 -- The forest of the repair became this one, which has the new system's next level. By both kinds of nodes it was looked: the

@@ -4,10 +4,10 @@ use Rattle.lsys_spec.specs.Rows.{In}
 use Rattle.lsys_forest.specs.Nodes.{Nodes}
 use Rattle.lsys_forest.specs.Groves.{Grove, IsRooted, changes_in, now_of}
 use Rattle.lsys_forest.specs.Rows.{level_nodes, level_spots}
-use Rattle.lsys_kept.specs.declared.seat.Seat.{Seat}
-use Rattle.lsys_kept.specs.Neighbours.{neighbours_in}
-use Rattle.lsys_kept.specs.Seats.{neighbours_at}
-use Rattle.lsys_kept.specs.Standings.{AreSeated}
+use Rattle.lsys_reads.specs.declared.seat.Seat.{Seat}
+use Rattle.lsys_reads.specs.Neighbours.{neighbours_in}
+use Rattle.lsys_reads.specs.Seats.{neighbours_at}
+use Rattle.lsys_reads.specs.Standings.{AreSeated}
 
 module _ {A : Type 0} where
   -- The seats tell the neighbours that the nodes of level t had; those that are not turned were there, and have these.

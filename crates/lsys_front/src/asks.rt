@@ -1,17 +1,18 @@
 //! Which nodes of a level that was made are asked.
 ghost use Rattle.std.specs.Prelude.{◌≡◌, ℕ, IfOk, OnOk, false};
 ghost use Rattle.lsys_spec.specs.Rows.{AreApart};
-ghost use Rattle.lsys_kept.specs.Seats.{is_marked, HasSeat, SameSeats, KeepsSeats};
-ghost use Rattle.lsys_candidates.specs.Finds.{AllMarked};
-ghost use Rattle.lsys_candidates.specs.Asks.{AreInOrder};
+ghost use Rattle.lsys_reads.specs.Seats.{is_marked, HasSeat, SameSeats, KeepsSeats};
+ghost use Rattle.lsys_front.specs.Finds.{AllMarked};
+ghost use Rattle.lsys_front.specs.Questioned.{AreInOrder};
 ghost use Rattle.lsys_front.specs.Asks.{StandTogether};
-ghost use Rattle.lsys_front.specs.Pending.{NodesAreToAskOrUnasked, FoundPendingAreCandidates, AllPendingAreCandidates, OrderedNodesAreSome};
 ghost use Rattle.lsys_front.specs.Askable.{MayAsk, AreAsked, GathersAll};
 
 use crate::front::Front;
-use lsys_candidates::{add_asked, gather_nodes, in_order};
+use crate::gather::gather_nodes;
+use crate::order::in_order;
+use crate::questioned::add_asked;
 use lsys_forest::{Forest, Kept, NodeId};
-use lsys_kept::Seats;
+use lsys_reads::Seats;
 use lsys_rules::System;
 use std::alloc::{AllocError, Global};
 
@@ -25,13 +26,13 @@ pub struct Found {
 
 impl Front {
     /// The nodes of the level that are to be asked, from left to right: those that came, turned or were found, and others,
-    /// that have a question. No node is marked before or behind.
+    /// that have a question. No node is marked before or after.
     ///
     /// It costs steps by the number of all these, and by its logarithm.
     ///
     /// # Errors
     ///
-    /// Want of memory. The seats tell what they told.
+    /// Out of memory. The seats tell what they told.
     pub fn asked<A: Kept>(
         &self,
         alloc: Global,
@@ -82,18 +83,3 @@ impl Front {
         Ok(())
     }
 }
-
-/// Where the candidates of a level are to be asked, a node with a question has the answer that it had, and one without a
-/// question has none, each node of the level is to be asked, or what it keeps is right: the old system answered what it
-/// asks, and that answer, which tells other nodes by their numbers, is the definitions' one by every naming.
-pub fn law_of_levels_to_ask()
-    ensures { NodesAreToAskOrUnasked }
-{}
-
-/// The nodes that [`Front::asked`] gives are the candidates of the level: where they were found, and where the old system
-/// had no questions on the level, so that each node is asked. And in order they are some of the level.
-pub fn law_of_pending()
-    ensures found { FoundPendingAreCandidates }
-    ensures all { AllPendingAreCandidates }
-    ensures in_order { OrderedNodesAreSome }
-{}

@@ -2,25 +2,21 @@
 ghost use Rattle.std.specs.Prelude.{◌≡◌, ◌≤◌, ◌<◌, ◌+◌, ◌^◌, ◌++◌, ◌∷◌, ℕ, [], OnOk};
 ghost use Rattle.lsys_spec.specs.Rows.{In, AreApart};
 ghost use Rattle.lsys_forest.specs.Groves.{now_of, live_nodes, IsLive};
-ghost use Rattle.lsys_kept.specs.Looks.{kids_of};
-ghost use Rattle.lsys_candidates.specs.Repairs.{Repair, SteppingSpots, now};
+ghost use Rattle.lsys_reads.specs.Looks.{kids_of};
 ghost use Rattle.lsys_front.specs.Losses.{LosesOnly};
 ghost use Rattle.lsys_front.specs.Ends.{AreEnded, is_answered};
-ghost use Rattle.lsys_front.specs.LastLevels.{IsLevelEnded, IsBehindAll};
-ghost use Rattle.lsys_front.specs.AnsweredRows.{AnsweredAreThoseThatKeep, AnsweredAreApart, NodesBelowAreInRows, RowsOfADepthAreApart};
-ghost use Rattle.lsys_front.specs.EndedLevels.{EndedLevelIsTheLast, EndedLevelHasAllBehind};
 ghost use Rattle.lsys_front.specs.Dropped.{AddsKids, DropsOf, LosesAnswer, LosesChildren, DropsRows, KidsLive};
 
 use lsys_forest::{Forest, Kept, NodeId};
 use lsys_level::Tag;
 use std::alloc::{AllocError, Global};
 
-/// Takes the answers and the children of the nodes of a last level. Those that were their children come behind `below`, and
-/// those that had an answer behind `dropped`. No other node changes.
+/// Takes the answers and the children of the nodes of a last level. Those that were their children come after `below`, and
+/// those that had an answer after `dropped`. No other node changes.
 ///
 /// # Errors
 ///
-/// Want of memory, which may come between two nodes. The last rest stays then too, and no answer is new.
+/// Out of memory, which may come between two nodes. The last rest stays then too, and no answer is new.
 pub fn end_level<A: Kept>(
     forest: &mut Forest<A>,
     nodes: &[NodeId],
@@ -110,12 +106,12 @@ fn keeps_answer<A: Kept>(forest: &Forest<A>, node: NodeId) -> bool
     forest.answer(node).is_some()
 }
 
-/// Those of these nodes that keep an answer come behind `dropped`, and then those of the nodes below them, level by level: of so
+/// Those of these nodes that keep an answer come after `dropped`, and then those of the nodes below them, level by level: of so
 /// many levels, that of these nodes among them. It stops at a level that has no nodes. The forest is only read.
 ///
 /// # Errors
 ///
-/// Want of memory.
+/// Out of memory.
 pub fn drop_below<A: Kept>(
     alloc: Global,
     forest: &Forest<A>,
@@ -139,11 +135,11 @@ pub fn drop_below<A: Kept>(
     Ok(())
 }
 
-/// Those of these nodes that keep an answer come behind `dropped`. It costs steps by the number of the nodes.
+/// Those of these nodes that keep an answer come after `dropped`. It costs steps by the number of the nodes.
 ///
 /// # Errors
 ///
-/// Want of memory.
+/// Out of memory.
 pub fn add_answered<A: Kept>(
     forest: &Forest<A>,
     nodes: &[NodeId],
@@ -160,11 +156,11 @@ pub fn add_answered<A: Kept>(
     Ok(())
 }
 
-/// The children of these nodes come behind `below`, in order.
+/// The children of these nodes come after `below`, in order.
 ///
 /// # Errors
 ///
-/// Want of memory.
+/// Out of memory.
 pub fn add_children<A: Kept>(
     forest: &Forest<A>,
     nodes: &[NodeId],
@@ -179,21 +175,3 @@ pub fn add_children<A: Kept>(
     }
     Ok(())
 }
-
-/// Those of some nodes that keep an answer are among them, each once where each of the nodes is there once. Some nodes and those
-/// below them are the nodes of so many rows; and where those nodes are of one depth, no node is in two rows.
-pub fn law_of_answered_rows<A>()
-    ensures answered { AnsweredAreThoseThatKeep A }
-    ensures answered_once { AnsweredAreApart A }
-    ensures rows { NodesBelowAreInRows A }
-    ensures rows_once { RowsOfADepthAreApart A }
-{}
-
-/// A level whose nodes lose their answers and their children is the last one. Where the old system has no level behind it, it is
-/// the last one as it is. What was behind it at the last rest stays as it was, below its nodes and below those that are gone from
-/// it: so [`drop_below`] finds what kept an answer there, each node once.
-pub fn law_of_last_levels()
-    ensures ended { EndedLevelIsTheLast }
-    ensures bare { (r : Repair) → SteppingSpots r → IsBehindAll r → IsLevelEnded r (now r) }
-    ensures behind { EndedLevelHasAllBehind }
-{}

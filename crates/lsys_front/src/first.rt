@@ -4,9 +4,9 @@ ghost use Rattle.lsys_forest.specs.Groves.{AreSound, now_of, changes_in};
 ghost use Rattle.lsys_front.specs.Fronts.{IsToldFirst};
 ghost use Rattle.lsys_front.specs.LooksFrom.{first_nodes};
 
+use crate::changes::Changes;
 use crate::front::Front;
-use lsys_brood::Changes as Told;
-use lsys_candidates::Changes;
+use lsys_children::Changes as Told;
 use lsys_forest::{Forest, Kept};
 use std::alloc::{AllocError, Global};
 
@@ -16,7 +16,7 @@ impl Front {
     ///
     /// # Errors
     ///
-    /// Want of memory.
+    /// Out of memory.
     pub fn first<A: Kept>(
         alloc: Global,
         forest: &Forest<A>,

@@ -2,7 +2,7 @@
 ghost use Rattle.std.specs.Prelude.{◌≡◌};
 ghost use Rattle.lsys_front.specs.Fronts.{no_differences};
 
-use lsys_candidates::Changes;
+use crate::changes::Changes;
 use lsys_forest::NodeId;
 use std::alloc::Global;
 use std::marker::Model;

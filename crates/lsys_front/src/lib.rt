@@ -1,35 +1,41 @@
-//! The front of a pass: what differs on the level that was made last from that of the last rest, and what becomes of it on the
-//! next one; and the laws of neighbours and mates below a level that is being repaired.
+//! Who has to be asked on a level of a forest that is being repaired, and what differs on it and below it.
+//!
+//! A node's question may be another one than before where the node does not stand on the level as it stood, where one that
+//! its old answer read does not, or where its module has other rules. The first are found among the nodes that were looked
+//! at, by their seats, and beside those whose symbol changed; the second by who read what. So no level is walked where the
+//! rules are the same. What is known of such a level stands in `specs/Repairs.antt` and `specs/Found.antt`, and
+//! [`law_of_candidates`] says which of its nodes they are.
+//!
+//! What differs on a level is its [`Front`]: which nodes came, which are gone, which have another symbol or lost their answer,
+//! and which turned. It tells whose children may be others, and with what became of these children it tells the front of the
+//! next level. A last level has neither answers nor children: [`end_level`] takes them, and [`drop_below`] those after it.
 #![tactic(auto)]
 
 mod asks;
-pub mod below;
-mod differences;
+mod candidates;
+mod changes;
 mod ends;
+mod filters;
+mod finds;
 mod first;
 mod front;
-pub mod generations;
-mod law;
-pub mod levels;
+mod gather;
 mod looks;
 mod lost;
+mod module_key;
 mod next;
+mod order;
+mod others;
 mod parents;
-pub mod repaired;
+mod questioned;
 mod turn;
-pub mod turned;
 
-pub use asks::{Found, law_of_levels_to_ask, law_of_pending};
-pub use below::law_of_looks_below;
-pub use differences::{law_of_first_differences, law_of_next_differences};
-pub use ends::{
-    add_answered, add_children, drop_below, end_level, law_of_answered_rows, law_of_last_levels,
-};
+pub use asks::Found;
+pub use candidates::law_of_candidates;
+pub use changes::Changes;
+pub use ends::{add_answered, add_children, drop_below, end_level};
 pub use front::Front;
-pub use generations::law_of_left_generations;
-pub use levels::law_of_left_levels;
-pub use looks::{law_of_found_fronts, law_of_next_looks, law_of_seat_room};
-pub use lost::{law_of_forests, lose_answers};
-pub use parents::{any_opens, count_kids, law_of_level_parents, law_of_next_symbols};
-pub use repaired::{law_of_found_turned, law_of_remade_levels, law_of_rested_levels};
-pub use turned::{law_of_families, law_of_same_level, law_of_seats_below};
+pub use lost::law_of_forests;
+pub use others::{LevelRules, add_others};
+pub use parents::{any_opens, count_kids};
+pub use questioned::has_question;

@@ -1,13 +1,12 @@
-//! Who is looked at on the next level, and the front that is found there.
+//! Who is looked at on the next level.
 ghost use Rattle.std.specs.Prelude.{◌++◌, ℕ, OnOk};
 ghost use Rattle.lsys_spec.specs.Rows.{In};
 ghost use Rattle.lsys_front.specs.Fronts.{StandOn};
-ghost use Rattle.lsys_front.specs.NextLooks.{LooksBelowAreEnough, FoundNodesAreTheFront, SeatsForAllAreRoom, ChangedNodesAreOnLevels};
 ghost use Rattle.lsys_front.specs.LooksFrom.{moved_in, LooksFrom, AddsBelowThem};
 
 use crate::front::Front;
 use lsys_forest::{Forest, Kept, NodeId};
-use lsys_kept::{look_around, look_at_mates, look_beyond, look_into_branches};
+use lsys_reads::{look_around, look_at_mates, look_beyond, look_into_branches};
 use std::alloc::AllocError;
 
 impl Front {
@@ -18,7 +17,7 @@ impl Front {
     ///
     /// # Errors
     ///
-    /// Want of memory. No node is taken away, and only nodes of the next level are added.
+    /// Out of memory. No node is taken away, and only nodes of the next level are added.
     pub fn look_below<A: Kept>(
         &self,
         forest: &Forest<A>,
@@ -41,27 +40,3 @@ impl Front {
         Ok(())
     }
 }
-
-/// What was looked at is enough: where the next level of a repair was made, and it was looked by the nodes that were touched or
-/// came, and by those that came or turned, each node of the next level that was there was looked at, or has the neighbours and
-/// the mate that its seat tells.
-pub fn law_of_next_looks()
-    ensures { LooksBelowAreEnough }
-{}
-
-/// The front of a level of which the nodes were found by [`find_nodes`], and which keep their answers: what differs there, and
-/// those that were found to have turned.
-///
-/// [`find_nodes`]: lsys_candidates::find_nodes
-pub fn law_of_found_fronts()
-    ensures front { FoundNodesAreTheFront }
-{}
-
-/// What [`find_nodes`] asks for on a level: there are seats for all nodes that it may find, where each node that lives has one;
-/// and those that changed or were looked at stand on complete levels.
-///
-/// [`find_nodes`]: lsys_candidates::find_nodes
-pub fn law_of_seat_room()
-    ensures room { SeatsForAllAreRoom }
-    ensures levels { ChangedNodesAreOnLevels }
-{}

@@ -7,7 +7,7 @@ ghost use Rattle.lsys_front.specs.Asks.{IsIdle};
 ghost use Rattle.lsys_front.specs.LostAnswers.{LosesIn, LosesBoth};
 
 use crate::front::Front;
-use lsys_candidates::has_question;
+use crate::questioned::has_question;
 use lsys_forest::{Forest, Kept, NodeId};
 use lsys_level::Tag;
 use lsys_rules::System;
@@ -15,13 +15,13 @@ use std::alloc::AllocError;
 
 impl Front {
     /// Takes the answers of the nodes of the level that have no question any more, by its rules: of those that changed, and of
-    /// others. They come behind those that lost theirs before, and behind `dropped`.
+    /// others. They come after those that lost theirs before, and after `dropped`.
     ///
     /// It costs steps by the number of these nodes.
     ///
     /// # Errors
     ///
-    /// Want of memory. No answer is new then, and the last rest stays.
+    /// Out of memory. No answer is new then, and the last rest stays.
     pub fn lose<A: Kept>(
         &mut self,
         forest: &mut Forest<A>,
@@ -75,12 +75,12 @@ pub fn law_of_forests<A: Kept>(forest: &Forest<A>)
 }
 
 /// Takes the answers of those of these nodes that have no question any more, by the rules of a level of a system. They come
-/// behind `bare`, and behind `dropped`.
+/// after `bare`, and after `dropped`.
 ///
 /// # Errors
 ///
-/// Want of memory. Nothing has changed then.
-pub fn lose_answers<A: Kept>(
+/// Out of memory. Nothing has changed then.
+fn lose_answers<A: Kept>(
     forest: &mut Forest<A>,
     system: &System,
     level: u32,

@@ -5,12 +5,12 @@ ghost use Rattle.lsys_forest.specs.Groves.{IsLive};
 ghost use Rattle.lsys_front.specs.Fronts.{IsToldNext, StandOn, no_differences};
 ghost use Rattle.lsys_front.specs.LooksFrom.{moved_in, LooksIfThere, LooksOnlyBelow};
 
+use crate::changes::Changes as LevelChanges;
 use crate::ends::add_children;
 use crate::front::Front;
-use lsys_brood::Changes;
-use lsys_candidates::Changes as LevelChanges;
+use lsys_children::Changes;
 use lsys_forest::Forest;
-use lsys_kept::KeptAnswer;
+use lsys_reads::KeptAnswer;
 use std::alloc::{AllocError, Global};
 use std::sync::ledger::Ledger;
 
@@ -24,7 +24,7 @@ impl Front {
     ///
     /// # Errors
     ///
-    /// Want of memory.
+    /// Out of memory.
     pub fn next<L: Ledger>(
         &self,
         alloc: Global,
@@ -49,7 +49,7 @@ impl Front {
     ///
     /// # Errors
     ///
-    /// Want of memory.
+    /// Out of memory.
     fn tell_next<L: Ledger>(
         &self,
         forest: &Forest<KeptAnswer<L>>,

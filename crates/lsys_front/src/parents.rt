@@ -3,33 +3,31 @@ ghost use Rattle.std.specs.Prelude.{◌≡◌, ◌↔◌, ◌≤◌, ◌^◌, �
 ghost use Rattle.lsys_spec.specs.Rows.{In, AreApart};
 ghost use Rattle.lsys_forest.specs.Groves.{IsLive, now_of};
 ghost use Rattle.lsys_forest.specs.Rows.{kids_in};
-ghost use Rattle.lsys_kept.specs.Seats.{is_marked, HasSeat, SameSeats, KeepsSeats};
-ghost use Rattle.lsys_candidates.specs.Finds.{AllMarked};
-ghost use Rattle.lsys_repair.specs.WalkedParents.{HaveShortSuccessors};
+ghost use Rattle.lsys_reads.specs.Seats.{is_marked, HasSeat, SameSeats, KeepsSeats};
+ghost use Rattle.lsys_front.specs.Finds.{AllMarked};
+ghost use Rattle.lsys_children.specs.WalkedParents.{HaveShortSuccessors};
 ghost use Rattle.lsys_front.specs.Fronts.{MayHaveOthers};
-ghost use Rattle.lsys_front.specs.NextParents.{AnsweredNodesAreParents, SameNodesHaveTheirWanted, LevelsStayClosed};
-ghost use Rattle.lsys_front.specs.NextSymbols.{LengthWithoutTheGone, LengthByTheParents, LengthByTheWalk};
 ghost use Rattle.lsys_front.specs.OpenParents.{GathersParents, NoneOpens, OneOpens};
 
 use crate::front::Front;
-use lsys_candidates::{gather_nodes, gather_tags};
+use crate::gather::{gather_nodes, gather_tags};
+use lsys_children::is_open;
 use lsys_forest::{Forest, Kept, NodeId};
-use lsys_kept::{KeptAnswer, Seats};
 use lsys_level::Tag;
-use lsys_repair::is_open;
+use lsys_reads::{KeptAnswer, Seats};
 use std::alloc::{AllocError, Global};
 use std::sync::ledger::Ledger;
 
 impl Front {
     /// The nodes of the level whose children may be others than at the last rest, where none was cut off then and none is now:
     /// those with a new answer, those that came or changed, and those that lost their answer. Each once. No node is marked
-    /// before or behind.
+    /// before or after.
     ///
     /// It costs steps by the number of these.
     ///
     /// # Errors
     ///
-    /// Want of memory. The seats tell what they told.
+    /// Out of memory. The seats tell what they told.
     pub fn parents(
         &self,
         alloc: Global,
@@ -56,7 +54,7 @@ impl Front {
     ///
     /// # Errors
     ///
-    /// Want of memory. Those that were added then are marked, and no others.
+    /// Out of memory. Those that were added then are marked, and no others.
     fn gather_parents(
         &self,
         seats: &mut Seats,
@@ -88,7 +86,7 @@ pub fn count_kids<A: Kept>(forest: &Forest<A>, nodes: &[NodeId]) -> usize
     count
 }
 
-/// Whether a cut among what replaces one of these nodes, by the answer that it keeps, reaches what stands behind it. It costs
+/// Whether a cut among what replaces one of these nodes, by the answer that it keeps, reaches what stands after it. It costs
 /// steps by the length of what replaces them.
 pub fn any_opens<L: Ledger>(forest: &Forest<KeptAnswer<L>>, nodes: &[NodeId]) -> bool
     requires lives { (k : ℕ) → In k nodes.now → IsLive forest.now k }
@@ -103,23 +101,3 @@ pub fn any_opens<L: Ledger>(forest: &Forest<KeptAnswer<L>>, nodes: &[NodeId]) ->
     }
     false
 }
-
-/// The nodes of a level whose questions are answered are parents. Where at the last rest no cut reached what stood behind the
-/// children of one of them, a node that was there, with the symbol and the answer that it has, still has the children that are
-/// wanted of it, if the seed and the numbering stay; and no cut reaches what stands behind the children of one of them now, if
-/// none does of those that were not there so.
-pub fn law_of_level_parents()
-    ensures parents { AnsweredNodesAreParents }
-    ensures others { SameNodesHaveTheirWanted }
-    ensures closed { LevelsStayClosed }
-{}
-
-/// How long the next level will be. Before its nodes are made, it is as long as it was at the last rest, without the children
-/// of those that are gone. Where no cut reaches what stands behind the children of a node, and the others have those that are
-/// wanted of them, it will have what is wanted of the parents in place of what they have; where all nodes of the level were
-/// walked, what the walk found to be wanted of them.
-pub fn law_of_next_symbols()
-    ensures left { LengthWithoutTheGone }
-    ensures sum { LengthByTheParents }
-    ensures whole { LengthByTheWalk }
-{}

@@ -1,27 +1,26 @@
 //! Which nodes of a level turned.
 ghost use Rattle.std.specs.Prelude.{◌≡◌, ℕ, false, IfOk};
-ghost use Rattle.lsys_kept.specs.Seats.{is_marked, SameSeats, KeepsSeats};
-ghost use Rattle.lsys_candidates.specs.Found.{AreOnLevels, HasSeatsForFound};
+ghost use Rattle.lsys_reads.specs.Seats.{is_marked, SameSeats, KeepsSeats};
+ghost use Rattle.lsys_front.specs.Found.{AreOnLevels, HasSeatsForFound};
 ghost use Rattle.lsys_front.specs.Askable.{FindsTurned};
 
 use crate::asks::Found;
+use crate::changes::find_nodes;
 use crate::front::Front;
-use lsys_candidates::find_nodes;
 use lsys_forest::{Forest, Kept};
-use lsys_kept::Seats;
-use lsys_reads::Reads;
+use lsys_reads::{Reads, Seats};
 use std::alloc::{AllocError, Global};
 
 impl Front {
     /// Finds the nodes of the level that have other neighbours, or another mate, than their seats tell: they are those that
     /// turned now. And it gives the others whose questions may be others, though their rules are the same. No node is marked
-    /// before or behind.
+    /// before or after.
     ///
     /// It costs steps by the nodes that changed or were looked at, and by the readers of those that are found.
     ///
     /// # Errors
     ///
-    /// Want of memory. The seats tell what they told.
+    /// Out of memory. The seats tell what they told.
     pub fn turn<A: Kept>(
         &mut self,
         alloc: Global,

@@ -15,10 +15,10 @@ use Rattle.lsys_bodies.specs.declared.rule.Rule.{Rule}
 use Rattle.lsys_bodies.specs.declared.body.Body.{Body}
 use Rattle.lsys_bodies.specs.declared.body.Template.{Template}
 use Rattle.lsys_bodies.specs.Views.{as_production, rule_of, template_symbol}
-use Rattle.lsys_matrix.specs.Capped.{cap, capped, value_of}
-use Rattle.lsys_matrix.specs.Matrices.{place, IsMatrix, Square}
-use Rattle.lsys_matrix.specs.Growth.{letter_count}
-use Rattle.lsys_matrix.specs.Counts.{branch_count, count_at, without_params, given, given_in, given_at, step_matrix}
+use Rattle.lsys_growth.specs.Capped.{cap, capped, value_of}
+use Rattle.lsys_growth.specs.Matrices.{place, IsMatrix, Square}
+use Rattle.lsys_growth.specs.Growth.{letter_count}
+use Rattle.lsys_growth.specs.Counts.{branch_count, count_at, without_params, given, given_in, given_at, step_matrix}
 use Rattle.lsys_growth.specs.Counting.{count_of_what, AddsCounts, letter_alone, given_for}
 
 bare_letters : {P : Type 0} (n : ModuleName) (xs : List (S.Symbol P)) → letter_count n (without_params {Q = ℤ} xs) ≡ letter_count n xs

@@ -16,8 +16,8 @@ use Rattle.lsys_bodies.specs.declared.rule.Rule.{Rule}
 use Rattle.lsys_bodies.specs.declared.body.Body.{Body}
 use Rattle.lsys_bodies.specs.declared.body.Template.{Template}
 use Rattle.lsys_bodies.specs.Views.{as_production, rule_of, template_symbol}
-use Rattle.lsys_matrix.specs.Growth.{all_rule_names, among, letters, most_letters, module_names, rule_names, put_before, put_letters}
-use Rattle.lsys_matrix.proofs.Letters.{letters_longer, letters_more, letter_new, put_longer}
+use Rattle.lsys_growth.specs.Growth.{all_rule_names, among, letters, most_letters, module_names, rule_names, put_before, put_letters}
+use Rattle.lsys_growth.proofs.LettersAmong.{letters_longer, letters_more, letter_new, put_longer}
 use Rattle.lsys_growth.specs.Letters.{letter_place, HasPut}
 
 -- 1. a name among names

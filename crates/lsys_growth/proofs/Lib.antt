@@ -2,5 +2,14 @@ pub mod Names
 pub mod LettersPut
 pub mod Counts
 pub mod Stepping
-pub mod Told
+pub mod ToldRows
 pub mod Results
+pub mod Sums
+pub mod Powers
+pub mod Stopping
+pub mod Squaring
+pub mod Alone
+pub mod LevelCounts
+pub mod Lengths
+pub mod LettersAmong
+pub mod ToldLevels

@@ -3,17 +3,17 @@ use Rattle.std.proofs.Common.{◌≡◌, ℕ, zero, suc, ◌+◌, ◌-◌, ◌*�
 use Rattle.std.proofs.Math.Nat.{div-add-mod, mod-lt}
 use Rattle.lsys_syntax.specs.Strings.{ModuleName}
 use Rattle.lsys_spec.specs.Systems.{System}
-use Rattle.lsys_matrix.specs.Capped.{capped}
-use Rattle.lsys_matrix.specs.Sums.{row_after, repeated, product, steps_product}
-use Rattle.lsys_matrix.specs.Matrices.{Square, IsRow, IsMatrix, IsRowTimes, IsProduct}
-use Rattle.lsys_matrix.proofs.Sums.{row_by_product}
-use Rattle.lsys_matrix.proofs.Powers.{StandsFor, steps_stand, run_whole}
-use Rattle.lsys_matrix.proofs.Squaring.{times_row, times_matrix}
-use Rattle.lsys_matrix.specs.Counts.{step_matrix, first_counts, counts_after}
-use Rattle.lsys_matrix.proofs.Told.{steps_again}
+use Rattle.lsys_growth.specs.Capped.{capped}
+use Rattle.lsys_growth.specs.Sums.{row_after, repeated, product, steps_product}
+use Rattle.lsys_growth.specs.Matrices.{Square, IsRow, IsMatrix, IsRowTimes, IsProduct}
+use Rattle.lsys_growth.proofs.Sums.{row_by_product}
+use Rattle.lsys_growth.proofs.Powers.{StandsFor, steps_stand, run_whole}
+use Rattle.lsys_growth.proofs.Squaring.{times_row, times_matrix}
+use Rattle.lsys_growth.specs.Counts.{step_matrix, first_counts, counts_after}
+use Rattle.lsys_growth.proofs.ToldLevels.{steps_again}
 use Rattle.lsys_growth.specs.Steps.{turn_matrix, AfterTurns, AfterSteps, FewProductsForTurns, FewProductsForLevel}
 
--- a matrix behind those of the steps before step l
+-- a matrix after those of the steps before step l
 abbrev with_before : ℕ → (ℕ → ℕ → ℕ → ℕ) → ℕ → (ℕ → ℕ → ℕ) → ℕ → ℕ → ℕ
 with_before k a zero b = b
 with_before k a (suc l) b = product k (steps_product k a l) b

@@ -10,10 +10,10 @@ use Rattle.lsys_module.specs.Views.{module_name, string_of}
 use Rattle.lsys_module.specs.declared.symbol.Symbol.{Symbol}
 use Rattle.lsys_bodies.specs.declared.body.Template.{Template}
 use Rattle.lsys_bodies.specs.Views.{template_symbol}
-use Rattle.lsys_matrix.specs.Capped.{capped}
-use Rattle.lsys_matrix.specs.Matrices.{place}
-use Rattle.lsys_matrix.specs.Growth.{letter_count}
-use Rattle.lsys_matrix.specs.Counts.{branch_count, count_at, given}
+use Rattle.lsys_growth.specs.Capped.{capped}
+use Rattle.lsys_growth.specs.Matrices.{place}
+use Rattle.lsys_growth.specs.Growth.{letter_count}
+use Rattle.lsys_growth.specs.Counts.{branch_count, count_at, given}
 
 -- how often a letter stands in a string, or `[` for none
 abbrev pub count_of_what : {P : Type 0} → Option ModuleName → List (S.Symbol P) → ℕ
@@ -47,7 +47,7 @@ abbrev pub given_for : System → ℕ → Option ModuleName → List (S.Symbol �
 given_for s t None = S.Push ∷ []
 given_for s t (Some n) = given s t n
 
--- the counts of a string stand behind the old entries
+-- the counts of a string stand after the old entries
 pub record AddsCounts {P : Type 0} (ns : List ModuleName) (xs : List (S.Symbol P)) (old new : List (Option ℕ)) : Type 0 where
   pub len : length new ≡ length old + suc (length ns)
   pub before : (i : ℕ) → i < length old → place new i ≡ place old i

@@ -7,7 +7,7 @@ use Rattle.lsys_module.specs.Views.{module_name}
 use Rattle.lsys_bodies.specs.declared.body.Template.{Template}
 use Rattle.lsys_bodies.specs.declared.rule.Rule.{Rule}
 use Rattle.lsys_bodies.specs.Views.{as_production, template_symbol}
-use Rattle.lsys_matrix.specs.Growth.{all_rule_names, letters, most_letters, module_names, put_letters}
+use Rattle.lsys_growth.specs.Growth.{all_rule_names, letters, most_letters, module_names, put_letters}
 
 abbrev pub letters_in : Vec (List ℕ) Global → List ModuleName
 letters_in v = map module_name v.items
@@ -16,7 +16,7 @@ letters_in v = map module_name v.items
 abbrev pub letter_before : ModuleName → ModuleName → Bool
 letter_before n m = comes_before (module_name_text n) (module_name_text m)
 
--- how many names stand before the first that comes behind a name
+-- how many names stand before the first that comes after a name
 abbrev pub letter_place : ModuleName → List ModuleName → ℕ
 letter_place n [] = 0
 letter_place n (m ∷ ms) = if letter_before n m then 0 else suc (letter_place n ms)

@@ -3,3 +3,11 @@ pub mod Letters
 pub mod Counting
 pub mod Steps
 pub mod Census
+pub mod Capped
+pub mod Sums
+pub mod Matrices
+pub mod Turns
+pub mod Growth
+pub mod GrowthExamples
+pub mod Counts
+pub mod CountedGrowth

@@ -4,9 +4,9 @@ use Rattle.std.specs.declared.alloc.Global.{Global}
 use Rattle.lsys_syntax.specs.Strings.{ModuleName}
 use Rattle.lsys_spec.specs.Systems.{System}
 use Rattle.lsys_module.specs.Views.{module_name}
-use Rattle.lsys_matrix.specs.Sums.{row_after, repeated, steps_product}
-use Rattle.lsys_matrix.specs.Matrices.{Square, IsRow, IsMatrix}
-use Rattle.lsys_matrix.specs.Counts.{first_counts, counts_after, step_matrix}
+use Rattle.lsys_growth.specs.Sums.{row_after, repeated, steps_product}
+use Rattle.lsys_growth.specs.Matrices.{Square, IsRow, IsMatrix}
+use Rattle.lsys_growth.specs.Counts.{first_counts, counts_after, step_matrix}
 
 -- a place for each letter, and one for `[`
 abbrev pub width : List ModuleName → ℕ

@@ -20,7 +20,7 @@ pub struct Growth {
 }
 
 impl Model for Growth {
-    ghost use Rattle.lsys_matrix.specs.Growth.{Census};
+    ghost use Rattle.lsys_growth.specs.Growth.{Census};
     ghost use Rattle.lsys_growth.specs.Views.{census_of};
 
     ghost Value = { Census };

@@ -3,7 +3,7 @@ ghost use Rattle.std.specs.Prelude.{◌≡◌, map};
 ghost use Rattle.lsys_laws.specs.Sessions.{IsWell};
 ghost use Rattle.lsys_module.specs.Views.{string_of};
 ghost use Rattle.lsys_bodies.specs.Views.{as_production, rule_of, template_symbol};
-ghost use Rattle.lsys_matrix.specs.Growth.{all_plain, in_class, is_bare, is_plain_rule};
+ghost use Rattle.lsys_growth.specs.Growth.{all_plain, in_class, is_bare, is_plain_rule};
 
 use lsys_bodies::{Rule, Template};
 use lsys_module::Symbol;

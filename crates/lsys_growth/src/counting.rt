@@ -10,7 +10,7 @@ use lsys_module::Symbol;
 use lsys_text::Name;
 use std::alloc::AllocError;
 
-// Puts the counts of an axiom behind some entries: of each letter, and then of `[`.
+// Puts the counts of an axiom after some entries: of each letter, and then of `[`.
 pub(crate) fn push_axiom(
     entries: &mut Vec<Option<u128>>,
     letters: &[Name],
@@ -55,7 +55,7 @@ pub(crate) fn push_alone(
     Ok(())
 }
 
-// The letter at a place; behind the last one none, which stands for `[`.
+// The letter at a place; after the last one none, which stands for `[`.
 pub(crate) fn letter_at(letters: &[Name], place: usize) -> Option<Name>
     ensures { option_map module_name result ≡ slice_get (map module_name letters.now) place }
 {

@@ -1,20 +1,21 @@
 //! The letters of a level, counted.
 ghost use Rattle.std.specs.Prelude.{◌≡◌, ◌<◌, ◌*◌, suc, Some, IfOk, OnOk, length, map};
 ghost use Rattle.lsys_module.specs.Views.{module_name};
-ghost use Rattle.lsys_matrix.specs.Capped.{cap, capped, value_of};
-ghost use Rattle.lsys_matrix.specs.Matrices.{place};
-ghost use Rattle.lsys_matrix.specs.Growth.{growth_at};
-ghost use Rattle.lsys_matrix.specs.Counts.{told_length};
+ghost use Rattle.lsys_growth.specs.Capped.{cap, capped, value_of};
+ghost use Rattle.lsys_growth.specs.Matrices.{place};
+ghost use Rattle.lsys_growth.specs.Growth.{growth_at};
+ghost use Rattle.lsys_growth.specs.Counts.{told_length};
 ghost use Rattle.lsys_growth.specs.Views.{IsGrowthAnswer};
 ghost use Rattle.lsys_growth.specs.Census.{AddsCount, IsCensus};
 ghost use Rattle.lsys_growth.specs.Steps.{FewProductsForLevel};
 
 use crate::answer::{Count, Growth};
+use crate::capped::plus;
 use crate::class::is_in_class;
 use crate::letters::letters;
 use crate::refusal::GrowthRefusal;
-use crate::steps::level_row;
-use lsys_matrix::{Steps, plus};
+use crate::steps::Steps;
+use crate::turns::level_row;
 use lsys_rules::System;
 use lsys_text::Name;
 use std::alloc::{AllocError, Global};
@@ -27,7 +28,7 @@ use std::sync::ledger::Ledger;
 /// # Errors
 ///
 /// `Class` where the modules of a letter aren't rewritten alike, else `Letters` where there are more than 63, else `Overflow`
-/// where the level's length is past 128 bits, each exactly there; or want of memory.
+/// where the level's length is past 128 bits, each exactly there; or out of memory.
 pub fn growth<P: Ledger>(
     alloc: Global,
     system: &System,
@@ -87,7 +88,7 @@ fn counts_of(
     })
 }
 
-// Puts a letter that stands in the level behind the others.
+// Puts a letter that stands in the level after the others.
 fn push_count(counts: &mut Vec<Count>, name: Name, times: Option<u128>) -> Result<(), AllocError>
     requires { value_of times < cap }
     ensures { OnOk result (AddsCount (module_name name) (value_of times) counts.old counts.new) }

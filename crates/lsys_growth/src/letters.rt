@@ -3,7 +3,7 @@ ghost use Rattle.std.specs.Prelude.{◌≡◌, ◌≤◌, ◌∷◌, [], IfOk, l
 ghost use Rattle.lsys_spec.specs.Systems.{comes_before, same_name};
 ghost use Rattle.lsys_module.specs.Views.{module_name, string_of};
 ghost use Rattle.lsys_bodies.specs.Views.{rule_of};
-ghost use Rattle.lsys_matrix.specs.Growth.{among, letters, most_letters, module_names, rule_names};
+ghost use Rattle.lsys_growth.specs.Growth.{among, letters, most_letters, module_names, rule_names};
 ghost use Rattle.lsys_growth.specs.Letters.{AreLettersOf, letter_place, PutsNames, letter_before, names_in_rules, names_in_templates};
 
 use lsys_bodies::{Rule, Template};
@@ -109,7 +109,7 @@ pub(crate) fn same_name(one: Name, other: Name) -> bool
     one == other
 }
 
-// How many letters stand before the first that comes behind a name.
+// How many letters stand before the first that comes after a name.
 fn place_of(letters: &[Name], name: Name) -> usize
     ensures place { result ≡ letter_place (module_name name) (map module_name letters.now) }
     ensures within { result ≤ length letters.now }

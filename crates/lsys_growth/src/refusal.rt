@@ -16,7 +16,7 @@ pub enum GrowthRefusal {
     /// The length of the level is past 128 bits.
     #[error("overflow")]
     Overflow,
-    /// Want of memory.
+    /// Out of memory.
     #[error("out of memory")]
     Memory,
 }

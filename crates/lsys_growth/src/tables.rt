@@ -2,35 +2,31 @@
 ghost use Rattle.std.specs.Prelude.{◌≡◌, ◌≤◌, ◌<◌, true, IfOk, OnOk, length, map};
 ghost use Rattle.lsys_module.specs.Views.{module_name};
 ghost use Rattle.lsys_bodies.specs.Views.{as_production};
-ghost use Rattle.lsys_matrix.specs.Growth.{in_class, letters, most_letters};
+ghost use Rattle.lsys_growth.specs.Growth.{in_class, letters, most_letters};
 ghost use Rattle.lsys_growth.specs.Counting.{AddsGiven, letter_rules};
 ghost use Rattle.lsys_growth.specs.Steps.{IsStepMatrix};
 
 use crate::counting::{letter_at, push_alone, push_successor};
 use crate::letters::letters;
+use crate::matrix::Matrix;
 use lsys_bodies::Rule;
-use lsys_matrix::Matrix;
 use lsys_rules::System;
 use lsys_text::Name;
 use std::alloc::{AllocError, Global};
 
-/// The matrices of tables.
-pub trait OfTable: Sized {
-    /// The matrix of a step by the table at a place of the schedule, from 0: how often each letter, and behind the letters `[`,
+impl Matrix {
+    /// The matrix of a step by the table at a place of the schedule, from 0: how often each letter, and after the letters `[`,
     /// stands in the first successor of each letter, and of `[`. Letters without a rule there give themselves, and so does
     /// `[`. The letters stand in the order of the bytes of their names.
     ///
     /// # Errors
     ///
-    /// Want of memory.
-    fn of_table(alloc: Global, system: &System, schedule_place: usize) -> Result<Self, AllocError>
-        requires class { in_class system.now ≡ true }
-        requires letters { length (letters system.now) ≤ most_letters }
-        requires place { schedule_place < length system.now.schedule };
-}
-
-impl OfTable for Matrix {
-    fn of_table(alloc: Global, system: &System, schedule_place: usize) -> Result<Matrix, AllocError>
+    /// Out of memory.
+    pub fn of_table(
+        alloc: Global,
+        system: &System,
+        schedule_place: usize,
+    ) -> Result<Matrix, AllocError>
         requires class { in_class system.now ≡ true }
         requires letters { length (letters system.now) ≤ most_letters }
         requires place { schedule_place < length system.now.schedule }
@@ -68,7 +64,7 @@ pub(crate) fn step(
     Ok(Matrix::of_entries(size, entries))
 }
 
-// Puts the counts of what is given for a letter in the step from a level behind some entries: of the first successor for
+// Puts the counts of what is given for a letter in the step from a level after some entries: of the first successor for
 // it, or of itself. A `[` is given for itself.
 fn push_given(
     entries: &mut Vec<Option<u128>>,

@@ -90,6 +90,6 @@ no_lf_taken piece after kept_old kept_new count room g a e =
     a.splits.split ∙ ap (λ t. a.part ++ (t ++ after)) (ap feed e) ∙ ap (λ t. a.part ++ t) (a.splits.rest e) ∙ append-nil a.part in
     ap has_lf whole ∙ a.splits.no_lf
 
--- what has an LF has one with more behind it
+-- what has an LF has one with more after it
 pub has_lf-more : (held given next : List ℕ) → has_lf held ≡ true → next ≡ held ++ given → has_lf next ≡ true
 has_lf-more held given next h is = rw (is, has_lf-append held given, h)

@@ -19,7 +19,7 @@ reading held taken line = record { held = held; taken = taken; line = line; stag
 abbrev at_end : ℕ → List ℕ → List ℕ → LineReading
 at_end taken held line = record { held = held; taken = taken; line = line; stage = Ended }
 
--- with what the source has left behind it
+-- with what the source has left after it
 behind : (held given line after xs ys : List ℕ) → held ++ given ≡ line ++ after → xs ≡ given ++ ys → held ++ xs ≡ line ++ (after ++ ys)
 behind held given line after xs ys split is =
     ap (λ t. held ++ t) is ∙ sym (append_assoc held given ys) ∙ ap (λ t. t ++ ys) split ∙ append_assoc line after ys

@@ -18,7 +18,7 @@ abbrev pub feed : Bool → List ℕ
 feed true = 10 ∷ []
 feed false = []
 
--- Bytes were split into a part of the line, its LF if they have one, and what stands behind it.
+-- Bytes were split into a part of the line, its LF if they have one, and what stands after it.
 pub record Splits (bytes part after : List ℕ) (whole : Bool) : Type 0 where
   pub no_lf : has_lf part ≡ false
   pub split : bytes ≡ part ++ (feed whole ++ after)
@@ -56,7 +56,7 @@ FinishesLine Line count kept told = (count ≤ most_line_bytes) × (told ≡ wit
 FinishesLine Long count kept told = (most_line_bytes < count) × (told ≡ [])
 FinishesLine End count kept told = ⊥
 
--- Bytes were kept behind the line, unless it is too long with them.
+-- Bytes were kept after the line, unless it is too long with them.
 abbrev pub KeepsPart : ℕ → List ℕ → List ℕ → List ℕ → Type 0
 KeepsPart count part kept_old kept_new =
     count + length part ≤ most_line_bytes → kept_new ≡ kept_old ++ part

@@ -31,7 +31,7 @@ IsNotRefused Going = Unit {0}
 IsNotRefused Ended = Unit {0}
 IsNotRefused (Refused refusal) = ⊥
 
--- known bytes have this first line, and behind it come the others
+-- known bytes have this first line, and after it come the others
 abbrev pub HasFirstLine : Option (List ℕ) → Option (List ℕ) → List ℕ → Type 0
 HasFirstLine None after line = Unit {0}
 HasFirstLine (Some bytes) None line = ⊥

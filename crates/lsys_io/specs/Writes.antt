@@ -1,4 +1,4 @@
--- What a call that writes leaves behind.
+-- What a call that writes leaves after.
 use Rattle.std.specs.Prelude.{◌≡◌, ℕ, ◌≤◌, List, [], ◌++◌, length, take, Result, OnOk, OnErr}
 use Rattle.std.specs.declared.option.Option.{Option}
 use Rattle.std.specs.Io.KnownBytes.{Appends, append_known}
@@ -10,7 +10,7 @@ use Rattle.lsys_syntax.specs.Calls.{Lent}
 abbrev pub AppendsFront : Option (List ℕ) → Option (List ℕ) → List ℕ → Type 0
 AppendsFront old new bytes = (n : ℕ) × (n ≤ length bytes) × Appends old new (take n bytes)
 
--- A text was put behind the bytes that are held before a sink; or the sink failed, and nothing is held any more. What was
+-- A text was put after the bytes that are held before a sink; or the sink failed, and nothing is held any more. What was
 -- written is a front of the bytes held and the text. The count of faults never falls, and tells whether the sink failed.
 pub record WasPut {K A : Type 0} (written : K → Option (List ℕ)) (faults : K → ℕ) (sink_old sink_new : K) (held_old held_new text : List ℕ) (result : Result A Failed) : Type 0 where
   pub put : OnOk result (Appends (append_known (written sink_old) held_old) (append_known (written sink_new) held_new) text)

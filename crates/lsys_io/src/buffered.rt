@@ -40,7 +40,7 @@ impl Buffered {
         })
     }
 
-    /// Puts the bytes behind those held, and writes where there is no room.
+    /// Puts the bytes after those held, and writes where there is no room.
     #[tactic(auto, using(crate::proofs::Known::front_behind))]
     pub fn put<K: Sink>(&mut self, sink: &mut K, bytes: &[u8]) -> Result<(), Failed>
         ensures { Puts K.Sink sink self bytes.now result }

@@ -9,7 +9,7 @@ use Rattle.lsys_lattice.specs.Effects.{Stand, Walker, walker, walked, done, step
 use Rattle.lsys_lattice.specs.Bounds.{gone_on, turtle_after}
 use Rattle.lsys_lattice.specs.Free.{turtle_of, leads_far, goes_far, first_far, ends_of}
 
--- what a step gives: the turtle behind it, and the ends that it draws; or it is too far
+-- what a step gives: the turtle after it, and the ends that it draws; or it is too far
 abbrev Goes : Bool → Option Stepped → Turtle → List Vector → Type 0
 Goes true r t es = r ≡ None
 Goes false r t es = (s : Stepped) × (r ≡ Some s) × (s.turtle ≡ t) × ((gs : List Segment) (rest : Result (List Segment) ℕ) → with_segment s.segment rest ≡ Ok gs → (more : List Segment) × (rest ≡ Ok more) × (ends_of gs ≡ es ++ ends_of more))
@@ -136,7 +136,7 @@ reached_near l n w (x ∷ xs) =
     subst (λ b. (first_far l n w (x ∷ xs) ≡ None) ↔ (b ≡ true)) (sym (symbol_near l x w (places_reached l xs (stepped l x w))))
     (one_near (goes_far l x w) (all_near (places_reached l xs (stepped l x w))) (modules_to n x) (first_far l (modules_to n x) (stepped l x w) xs) (reached_near l (modules_to n x) (stepped l x w) xs))
 
--- 5. the turtle behind some symbols
+-- 5. the turtle after some symbols
 
 -- where the whole way isn't too far, no front of it is
 some_turtle : (b : Bool) (r : Option Stepped) (t : Turtle) (es : List Vector) → Goes b r t es → b ≡ false → (rest : Turtle → Option Turtle) (u : Turtle) → rest t ≡ Some u → gone_on r rest ≡ Some u

@@ -24,7 +24,7 @@ use Rattle.lsys_lattice.specs.Images.{and_behind, HasPartImage}
 abbrev Answer : Type 0
 Answer = Result (List (S.Symbol ℤ)) ImageRefusal
 
--- 1. one behind the other
+-- 1. one after the other
 
 under : (r : Answer) (k : ℕ) (f g : ℕ → Answer) → ((j : ℕ) → f j ≡ g j) → and_behind r k f ≡ and_behind r k g
 under (Ok ys) k f g h = ap (λ (a : Answer). a and_then λ more. Ok (ys ++ more)) (h (k + length ys))

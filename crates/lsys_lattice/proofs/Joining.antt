@@ -1,4 +1,4 @@
--- The extents of places one behind the other, and of places seen from elsewhere.
+-- The extents of places one after the other, and of places seen from elsewhere.
 use Rattle.std.proofs.Common.{◌≡◌, ℕ, zero, suc, ◌+◌, true, List, [], ◌∷◌, ◌++◌, map, length, refl, ap, sym, ◌∙◌, arith, length-append, ◌==◌}
 use Rattle.std.proofs.lemmas.Bool.Decides.{nat_tests}
 use Rattle.std.specs.Prelude.{ℤ, ◌+ℤ◌, Option, Some, fold}
@@ -18,7 +18,7 @@ use Rattle.lsys_lattice.proofs.Moving.{effect-append, effect-branch, told-append
 use Rattle.lsys_lattice.proofs.Fronts.{first_known, place_there}
 use Rattle.lsys_lattice.specs.Motions.{Motion, extents_or_none, motion, branched, motion_of_act, both, united, shifted_by, AreSeen, AreUnited, IsJoined}
 
--- 1. the least and the greatest of lists one behind the other
+-- 1. the least and the greatest of lists one after the other
 
 abbrev IsAssociative : (ℤ → ℤ → ℤ) → Type 0
 IsAssociative f = (a b c : ℤ) → f (f a b) c ≡ f a (f b c)

@@ -79,7 +79,7 @@ walked_from l from below (S.Module n ps ∷ xs) here saved k b =
 never : (n : ℕ) → (suc n == 0) ≡ true → ⊥
 never n h = grind (arith, nat_tests)
 
--- behind a balanced string nothing more is saved
+-- after a balanced string nothing more is saved
 pub none_saved : (l : Lattice) (xs : List (S.Symbol ℤ)) (here : Stand) (saved : List Stand) → balanced (length saved) xs ≡ true → (walked l xs (walker here saved)).saved ≡ []
 none_saved l [] here [] b = refl
 none_saved l [] here (h ∷ hs) b = absurd (never (length hs) b)

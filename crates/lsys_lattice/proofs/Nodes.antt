@@ -1,4 +1,4 @@
--- What a cut leaves of a balanced part is balanced, whatever stands before it and behind it; and children of a part are made for themselves.
+-- What a cut leaves of a balanced part is balanced, whatever stands before it and after it; and children of a part are made for themselves.
 use Rattle.std.proofs.Common.{◌≡◌, ℕ, zero, suc, ◌+◌, List, [], ◌∷◌, ◌++◌, length, refl, ap, sym, ◌∙◌, arith, true, append_assoc}
 use Rattle.std.specs.Prelude.{ℤ, Option, Some, None, Result, Ok, Err}
 use Rattle.lsys_syntax.specs.Strings as S

@@ -8,7 +8,7 @@ use Rattle.lsys_spec.specs.Meaning.{next_level}
 use Rattle.lsys_lattice.specs.Nodes.{HasPartBelow}
 
 -- what a cut leaves of a balanced part of a string is
--- balanced, whatever stands before it and behind it
+-- balanced, whatever stands before it and after it
 abbrev pub CutsLeaveBalancedParts : Type 0
 CutsLeaveBalancedParts =
     (a x b : List Raw) → raw_balanced 0 x ≡ true

@@ -1,4 +1,4 @@
--- What is asked of a picture as a whole: how far it reaches, and where its turtle is behind some symbols of the image.
+-- What is asked of a picture as a whole: how far it reaches, and where its turtle is after some symbols of the image.
 use Rattle.std.specs.Prelude.{ℕ, ℤ, Option, Some, None, Result, Ok, Err, List, [], ◌∷◌, ◌++◌, codes, decimal, length, take, nat_lt, if◌then◌else◌}
 use Rattle.std.specs.Fmt.{signed_decimal}
 use Rattle.lsys_syntax.specs.Strings as S
@@ -29,7 +29,7 @@ abbrev pub gone_on : Option Stepped → (Turtle → Option Turtle) → Option Tu
 gone_on None rest = None
 gone_on (Some s) rest = rest s.turtle
 
--- the turtle behind these symbols; None where it would be too far
+-- the turtle after these symbols; None where it would be too far
 abbrev pub turtle_after : Lattice → Turtle → List (S.Symbol ℤ) → Option Turtle
 turtle_after l t [] = Some t
 turtle_after l t (x ∷ xs) = gone_on (turtle_step l x t) (λ u. turtle_after l u xs)
@@ -46,7 +46,7 @@ travelled s x = or_no_image (image s x) and_then λ ys. or_far (segments_of s.la
 abbrev pub bounds : System → List L.LevelSymbol → Result Extents PictureRefusal
 bounds s x = travelled s x and_then λ way. Ok (bounds_of s.lattice way.1)
 
--- behind the first n symbols of a string; None where it has fewer
+-- after the first n symbols of a string; None where it has fewer
 abbrev pub turtle_at : Lattice → ℕ → List (S.Symbol ℤ) → Option Turtle
 turtle_at l n ys = if nat_lt (length ys) n then None else turtle_after l (at_start l) (take n ys)
 

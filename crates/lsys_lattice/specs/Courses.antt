@@ -1,4 +1,4 @@
--- Where a turtle is inside a string: behind some symbols of it, with a stand for each branch that is open there.
+-- Where a turtle is inside a string: after some symbols of it, with a stand for each branch that is open there.
 use Rattle.std.specs.Prelude.{◌≡◌, ℕ, zero, suc, ◌-◌, ℤ, true, List, [], ◌∷◌, ◌++◌, length, take, nat_lt, if◌then◌else◌}
 use Rattle.lsys_syntax.specs.Strings as S
 use Rattle.lsys_spec.specs.Lattices.{Lattice}
@@ -8,11 +8,11 @@ use Rattle.lsys_lattice.specs.Effects.{Stand, Walker, walked, first_walker, stan
 abbrev pub course : Lattice → ℕ → List (S.Symbol ℤ) → Walker
 course l n xs = walked l (take n xs) (first_walker l)
 
--- a way that goes on behind a string
+-- a way that goes on after a string
 abbrev pub onward : Lattice → List (S.Symbol ℤ) → Walker → Walker
 onward l xs w = walker_from l (effect l xs) [] w
 
--- a way in a branch that opens at the start: behind its `]` the turtle is at the start again
+-- a way in a branch that opens at the start: after its `]` the turtle is at the start again
 abbrev pub inward : Lattice → Walker → Walker
 inward l w = record w { saved = w.saved ++ (first_walker l).here ∷ [] }
 
@@ -48,7 +48,7 @@ HasBalancedRuns (Run xs) = S.balanced 0 xs ≡ true
 HasBalancedRuns (Row a b) = HasBalancedRuns a × HasBalancedRuns b
 HasBalancedRuns (Branch a) = HasBalancedRuns a
 
--- behind n symbols: down to the run where these end, by the numbers of symbols of the parts alone
+-- after n symbols: down to the run where these end, by the numbers of symbols of the parts alone
 abbrev pub descent : Lattice → ℕ → Grouping → Walker
 descent l n (Run xs) = course l n xs
 descent l n (Row a b) =

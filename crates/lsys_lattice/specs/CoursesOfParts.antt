@@ -37,7 +37,7 @@ BranchesAreGoneInward =
     → n ≤ length xs
     → course l (suc n) (S.Push ∷ xs ++ S.Pop ∷ []) ≡ inward l (course l n xs)
 
--- behind the `]` it is at the start again
+-- after the `]` it is at the start again
 abbrev pub BranchesAreLeftAtTheStart : Type 0
 BranchesAreLeftAtTheStart =
     (l : Lattice) (n : ℕ) (xs : List (S.Symbol ℤ)) → balanced 0 xs ≡ true
@@ -51,7 +51,7 @@ PartsLeadOneAfterTheOther =
     → effect l (strung parts) ≡ led_through l (first_walker l).here parts
 
 -- inside a part the turtle goes the way of that from where
--- those before it led, whatever stands behind it
+-- those before it led, whatever stands after it
 abbrev pub PartsAreGoneFromWhereOthersLed : Type 0
 PartsAreGoneFromWhereOthersLed =
     (l : Lattice) (n : ℕ) (before : List (List (S.Symbol ℤ))) (part behind : List (S.Symbol ℤ))
@@ -72,7 +72,7 @@ DescentsFindTheCourse =
     → n ≤ length (nested_string parts)
     → descent l n parts ≡ course l n (nested_string parts)
 
--- and so the turtle of a picture behind them
+-- and so the turtle of a picture after them
 abbrev pub DescentsFindTheTurtle : Type 0
 DescentsFindTheTurtle =
     (l : Lattice) (n : ℕ) (parts : Grouping) (gs : List Segment)

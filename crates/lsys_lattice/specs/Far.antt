@@ -21,6 +21,6 @@ IsInPlane square v = Unit {0}
 IsInPlane hexagonal v = v.z ≡ pos 0
 IsInPlane cubic v = Unit {0}
 
--- so many modules stand before what comes behind a string, where n stand before it
+-- so many modules stand before what comes after a string, where n stand before it
 abbrev pub modules_past : ℕ → List (S.Symbol ℤ) → ℕ
 modules_past n xs = fold modules_to n xs

@@ -46,7 +46,7 @@ BoundsAreToldByDrawnEnds =
     (l : Lattice) (ys : List (S.Symbol ℤ)) (gs : List Segment)
     → segments_of l ys ≡ Ok gs → bounds_of l gs ≡ extents l origin (drawn l ys)
 
--- behind some symbols of an image the turtle is where the free way over these leads
+-- after some symbols of an image the turtle is where the free way over these leads
 abbrev pub TurtlesStandOnTheFreeWay : Type 0
 TurtlesStandOnTheFreeWay =
     (l : Lattice) (n : ℕ) (ys : List (S.Symbol ℤ)) (gs : List Segment)

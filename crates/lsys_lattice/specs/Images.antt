@@ -11,7 +11,7 @@ use Rattle.lsys_lattice.specs.Nodes.{HasPartBelow}
 
 -- 1. the image
 
--- an image and what comes behind it, where k symbols stand before it
+-- an image and what comes after it, where k symbols stand before it
 abbrev pub and_behind : Result (List (S.Symbol ℤ)) ImageRefusal → ℕ → (ℕ → Result (List (S.Symbol ℤ)) ImageRefusal) → Result (List (S.Symbol ℤ)) ImageRefusal
 and_behind r k behind = r and_then λ ys. behind (k + length ys) and_then λ more. Ok (ys ++ more)
 

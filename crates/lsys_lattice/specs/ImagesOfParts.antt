@@ -9,7 +9,7 @@ use Rattle.lsys_spec.specs.LevelLaws.{HasBalance}
 use Rattle.lsys_lattice.specs.Nodes.{modules_in}
 use Rattle.lsys_lattice.specs.Images.{and_behind, HasPartImage, HasBalancedImages, level_below, HasDescendants}
 
--- behind the image of one part comes that of the next, as many modules and symbols further on, and
+-- after the image of one part comes that of the next, as many modules and symbols further on, and
 -- the first refusal is the whole's
 abbrev pub ImagesStandSideBySide : Type 0
 ImagesStandSideBySide =

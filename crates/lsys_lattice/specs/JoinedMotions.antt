@@ -22,7 +22,7 @@ StandsSeeExtents =
     → Contains (frames l) from.frame
     → AreSeen l from o (seen_from l from o)
 
--- the motion of strings one behind the other is their motions joined
+-- the motion of strings one after the other is their motions joined
 abbrev pub MotionsAreJoined : Type 0
 MotionsAreJoined =
     (l : Lattice) (xs ys : List (S.Symbol ℤ)) → balanced 0 xs ≡ true
@@ -51,7 +51,7 @@ RestBeforeAddsNothing =
     (l : Lattice) (xs : List (S.Symbol ℤ)) → balanced 0 xs ≡ true
     → joined_motions l (at_rest l 0) (motion l xs) ≡ motion l xs
 
--- nor does rest behind one
+-- nor does rest after one
 abbrev pub RestBehindAddsNothing : Type 0
 RestBehindAddsNothing =
     (l : Lattice) (xs : List (S.Symbol ℤ)) → balanced 0 xs ≡ true

@@ -36,7 +36,7 @@ motion_of_act l a =
 abbrev pub branched : Lattice → Motion → Motion
 branched l m = record { symbols = m.symbols + 2; effect = (first_walker l).here; drawn = m.drawn; reached = m.reached }
 
--- 2. of two strings one behind the other
+-- 2. of two strings one after the other
 
 abbrev pub each_of : (ℤ → ℤ → ℤ) → Vector → Vector → Vector
 each_of f v w = vector (f v.x w.x) (f v.y w.y) (f v.z w.z)

@@ -14,7 +14,7 @@ EffectsAreTheSameAnywhere =
     → Contains (frames l) from.frame → balanced 0 xs ≡ true
     → walked l xs (walker from below) ≡ walker (stand_from l from (effect l xs)) below
 
--- the effects of strings one behind the other are multiplied
+-- the effects of strings one after the other are multiplied
 abbrev pub EffectsAreMultiplied : Type 0
 EffectsAreMultiplied =
     (l : Lattice) (xs ys : List (S.Symbol ℤ)) → balanced 0 xs ≡ true → balanced 0 ys ≡ true
@@ -26,7 +26,7 @@ BranchesHaveNoEffect =
     (l : Lattice) (xs : List (S.Symbol ℤ)) → balanced 0 xs ≡ true
     → effect l (S.Push ∷ xs ++ S.Pop ∷ []) ≡ (first_walker l).here
 
--- the ends that the second string draws are carried behind the effect of the first
+-- the ends that the second string draws are carried after the effect of the first
 abbrev pub DrawnEndsAreCarriedOn : Type 0
 DrawnEndsAreCarriedOn =
     (l : Lattice) (xs ys : List (S.Symbol ℤ)) → balanced 0 xs ≡ true → balanced 0 ys ≡ true

@@ -5,7 +5,7 @@ use Rattle.lsys_spec.specs.Levels.{LevelSymbol, Push, Pop, Module, level_balance
 use Rattle.lsys_spec.specs.Cuts.{Raw, Plain, Cut, cut_on}
 use Rattle.lsys_spec.specs.Meaning.{children_from}
 
--- behind a part: whether a branch is being cut off, and how many are open in what is cut off
+-- after a part: whether a branch is being cut off, and how many are open in what is cut off
 abbrev pub cutting_behind_part : Option ℕ → List Raw → Option ℕ
 cutting_behind_part c [] = c
 cutting_behind_part None (Cut l ∷ x) = cutting_behind_part (Some 0) x

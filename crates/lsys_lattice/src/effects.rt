@@ -31,7 +31,7 @@ pub fn law_of_following()
 {}
 
 /// From any turtle the way over a balanced string ends where its effect does, carried there, and what was saved stays; the
-/// effects of strings one behind the other are multiplied, a branch has none, and so it is with the ends that are drawn and with
+/// effects of strings one after the other are multiplied, a branch has none, and so it is with the ends that are drawn and with
 /// the places that are reached.
 pub fn law_of_effects()
     ensures anywhere { EffectsAreTheSameAnywhere }
@@ -42,7 +42,7 @@ pub fn law_of_effects()
     ensures reached { ReachedPlacesAreTheSameAnywhere }
 {}
 
-/// What a cut leaves of a balanced part of a string is balanced, whatever stands before it and behind it.
+/// What a cut leaves of a balanced part of a string is balanced, whatever stands before it and after it.
 pub fn law_of_parts()
     ensures { CutsLeaveBalancedParts }
 {}
@@ -64,7 +64,7 @@ pub fn law_of_free_turtles()
     ensures reach { NothingIsFarWhereAllPlacesAreNear }
 {}
 
-/// How far a picture reaches is told by the effect of its image: by the ends that this draws. And where its turtle is behind
+/// How far a picture reaches is told by the effect of its image: by the ends that this draws. And where its turtle is after
 /// some symbols of the image is where the free way over these leads.
 pub fn law_of_bounds()
     ensures bounds { BoundsAreToldByDrawnEnds }

@@ -22,7 +22,7 @@ pub fn law_of_carried_extents()
     ensures stand { StandsSeeExtents }
 {}
 
-/// The motion of a whole is told by the motions of its parts: of strings one behind the other they are joined, whichever are
+/// The motion of a whole is told by the motions of its parts: of strings one after the other they are joined, whichever are
 /// joined first, and rest adds nothing; what is made by carrying extents is this. A branch leads nowhere, and draws and reaches
 /// what is in it; a single module has the motion of what it does, and no symbol is at rest. How far a picture reaches is told by the
 /// motion of its image.
@@ -40,8 +40,8 @@ pub fn law_of_motions()
 {}
 
 /// Inside a balanced string any turtle goes the way from the start, carried to where it is, and what was saved stays below.
-/// In strings one behind the other it goes the way of the first, and behind this that of the second from where the first one
-/// leads. In a branch it goes the way of what is in it, with the start saved, and behind the `]` it is at the start again.
+/// In strings one after the other it goes the way of the first, and after this that of the second from where the first one
+/// leads. In a branch it goes the way of what is in it, with the start saved, and after the `]` it is at the start again.
 pub fn law_of_courses()
     ensures anywhere { CoursesAreTheSameAnywhere }
     ensures first { FirstStringsAreGoneFirst }
@@ -51,14 +51,14 @@ pub fn law_of_courses()
 {}
 
 /// Parts side by side lead where each of them leads from where the one before it led. In one of them the turtle goes the way
-/// of that part from where those before it led, whatever stands behind it.
+/// of that part from where those before it led, whatever stands after it.
 pub fn law_of_strides()
     ensures effect { PartsLeadOneAfterTheOther }
     ensures inside { PartsAreGoneFromWhereOthersLed }
 {}
 
 /// Of a string that is told by its parts the way over the first symbols is found by going down to the run where they end: past
-/// the parts before it by their effects alone, and into a branch with the start saved. Behind its `]` a branch has led nowhere,
+/// the parts before it by their effects alone, and into a branch with the start saved. After its `]` a branch has led nowhere,
 /// and the width is what it was. So the turtle of a picture is found.
 pub fn law_of_fronts()
     ensures balanced { StringsOfBalancedRunsAreBalanced }
@@ -76,7 +76,7 @@ pub fn law_of_far_modules()
     ensures start { (l : Lattice) → IsInPlane l origin }
 {}
 
-/// The image of a level is told part by part: behind the image of one part comes that of the next, as many modules and symbols
+/// The image of a level is told part by part: after the image of one part comes that of the next, as many modules and symbols
 /// further on, and the first refusal is the whole's. Of a whole image each part is the image of that part alone, and balanced
 /// parts have balanced images.
 pub fn law_of_image_parts()

@@ -57,7 +57,7 @@ params_fault (t ∷ ts) bound e h = by (step_fault (value t bound) (λ z. filled
     by (inl k) ih = at_first bound t ts e k
     by (inr k) ih = later bound t ts e (k.0, k.1) (ih (inner_fault (filled_params ts bound) (λ zs. k.0 ∷ zs) e k.2))
 
--- a fault behind trees that have values
+-- a fault after trees that have values
 params_fail : (front back : List Tree) (t : Tree) (bound : List ℤ) (e : Arith) → Each (HasValue bound) front → value t bound ≡ Err e → filled_params (front ++ t ∷ back) bound ≡ Err e
 params_fail [] back t bound e v h = fault_first (value t bound) (λ z. filled_params back bound and_then λ zs. made (z ∷ zs)) e h
 params_fail (u ∷ front) back t bound e v h =
@@ -92,7 +92,7 @@ params_all (t ∷ ts) bound h =
     let r = params_all ts bound h.1 in
     (h.0.0 ∷ r.0, ap (λ v. v and_then λ z. filled_params ts bound and_then λ zs. made (z ∷ zs)) h.0.1 ∙ ap (λ v. v and_then λ zs. made (h.0.0 ∷ zs)) r.1)
 
--- a fault among the first trees, or among those behind them
+-- a fault among the first trees, or among those after them
 among_first : (bound : List ℤ) (ts us : List Tree) (e : Arith) → IsFirstFault bound ts e → IsFirstFault bound (ts ++ us) e
 among_first bound ts us e f = record {
   before = f.before;
@@ -141,7 +141,7 @@ split bound ts = by (filled_params ts bound) refl
 one_fault : {A : Type 0} (r : Result A Arith) (e k : Arith) → r ≡ Err e → r ≡ Err k → k ≡ e
 one_fault r e k h g = cc
 
--- behind trees that have values a fault is one of the rest
+-- after trees that have values a fault is one of the rest
 behind_values : (us ts : List Tree) (bound : List ℤ) (e : Arith) → Each (HasValue bound) ts → filled_params (ts ++ us) bound ≡ Err e → filled_params us bound ≡ Err e
 behind_values us [] bound e v h = h
 behind_values us (t ∷ ts) bound e v h =

@@ -25,7 +25,7 @@ no_earlier P j l h = omega (arith, l)
 here : (c : Counts) (n : ℕ) (t : Piece) (ps : List Piece) (P : ℕ → Type 0) (p : ℕ) → P 0 → Some n ≡ Some p → (k : ℕ) × (p ≡ n + k) × IsLeast P k
 here c n t ps P p h e = let f = some_place n p e in (0, sym f ∙ omega arith, (h, λ j l q. no_earlier P j l q))
 
--- only the pieces behind the first token pass
+-- only the pieces after the first token pass
 behind : (P Q : ℕ → Type 0) (n p : ℕ) → (P 0 → ⊥) → ((j : ℕ) → P (suc j) → Q j) → ((j : ℕ) → Q j → P (suc j)) → (k : ℕ) × (p ≡ n + 1 + k) × IsLeast Q k → (k : ℕ) × (p ≡ n + k) × IsLeast P k
 behind P Q n p z f g h = (suc h.0, h.1 ∙ omega arith, (g h.0 h.2.0, by_case))
   where

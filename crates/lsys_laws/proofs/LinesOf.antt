@@ -76,7 +76,7 @@ lines_joined (b ∷ bytes) = by_test (b == 10) refl (lines_joined bytes)
 
 -- 3. whole lines
 
--- none, or some that end with an LF; and what stands behind them
+-- none, or some that end with an LF; and what stands after them
 data Whole (bytes whole : List ℕ) : Type 0 where
   no_line : whole ≡ [] → Whole bytes whole
   some_lines : (front rest : List ℕ) → whole ≡ front ++ 10 ∷ [] → bytes ≡ front ++ 10 ∷ rest → Whole bytes whole

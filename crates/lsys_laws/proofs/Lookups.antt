@@ -136,7 +136,7 @@ past_levels s n t (x ∷ y ∷ levels) l h =
     at_append t l (questions_at s n x) (questions_below s (n + 1) (y ∷ levels))
     ∙ none_then _ _ (other_level s n t x 0 x l (λ e. omega (arith, h, e))) ∙ past_levels s (n + 1) t (y ∷ levels) l (omega (arith, h))
 
--- what is kept of the level i places behind level n
+-- what is kept of the level i places after level n
 pub kept_there : (s : System) (n t : ℕ) (levels : List (List LevelSymbol)) (i : ℕ) (l : List ℕ) → n + i ≡ t → Each Distinct levels
     → question_at t l (questions_below s n levels) ≡ kept_at (kept_from s n levels i) (place_of l (get_or levels i []))
 kept_there s n t [] i l e h = sym (nothing_kept (place_of l (get_or [] i [])))

@@ -1,4 +1,4 @@
--- The bytes that were written tell the replies, and so which lines were refused for want of memory.
+-- The bytes that were written tell the replies, and so which lines were refused for lack of memory.
 use Rattle.std.proofs.Common.{◌≡◌, ℕ, Bool, true, false, ◌&&◌, List, [], ◌∷◌, ◌++◌, ◌+◌, refl, ap, ◌∙◌, sym, drop, append_assoc, true≢false}
 use Rattle.std.specs.Prelude.{codes, ◌≢◌}
 use Rattle.std.proofs.lemmas.List.{append_cancel_left}
@@ -48,7 +48,7 @@ other_told limit s line w h = no_front (codes "refused ") (reply limit s line).t
     by (silent m n e) = ap (begins (codes "refused ")) e
     by (tells t) = told_other (reply limit s line) t h
 
--- 2. want of memory has a text of its own
+-- 2. lack of memory has a text of its own
 
 abbrev word_behind : List ℕ → List ℕ
 word_behind text = drop 8 text

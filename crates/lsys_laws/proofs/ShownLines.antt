@@ -16,7 +16,7 @@ use Rattle.lsys_spec.specs.Shown.{as_put, as_put_homomorphism, show_commands, sc
 use Rattle.lsys_spec.proofs.Eachs.{each_append}
 use Rattle.lsys_spec.proofs.ShownBack.{written-symbols, written-balanced}
 
--- each printed byte is a blank or comes behind it: none is an LF
+-- each printed byte is a blank or comes after it: none is an LF
 abbrev printed : ℕ → Bool
 printed c = nat_le 32 c
 

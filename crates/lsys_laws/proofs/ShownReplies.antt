@@ -130,7 +130,7 @@ first_under limit (suc t) s levels h = by_meaning (meaning_to s limit t) refl (�
     by_meaning (Ok ls) e f k = f ls e
     by_meaning (Err r) e f k = cc
 
--- an edit behind which a light system is light
+-- an edit after which a light system is light
 record Keeps (limit : ℕ) (c : Command) : Type 0 where
   edits : is_query c ≡ false
   keeps : (s : System) → IsLight limit s → IsLight limit (changed s c)
@@ -185,7 +185,7 @@ keeps_version limit s = by (s.version == 1)
     by true = tt
     by false = (record { edits = refl; keeps = λ r k. record { depth = k.depth; small = k.small } }, keeps_numbering limit s.numbering)
 
--- all commands but the last, which sets the depth, behind those of the version
+-- all commands but the last, which sets the depth, after those of the version
 abbrev rest_commands : System → List Command
 rest_commands s =
     set_lattice s.lattice ∷ set_seed s.seed ∷ set_axiom (written s.axiom_string) ∷ set_ignored s.ignored

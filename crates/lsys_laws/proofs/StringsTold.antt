@@ -56,7 +56,7 @@ axiom_only print_svg ks e = no_other print_svg ks refl e
 axiom_only print_system ks e = no_other print_system ks refl e
 axiom_only quit ks e = no_other quit ks refl e
 
--- a spelled command behind the word is a string, and a string is one
+-- a spelled command after the word is a string, and a string is one
 of_command : (c : Command) (ks : List Kind) → IsCommand c → kinds_of (command_pieces c) ≡ axiom_line ks → (xs : List (Symbol Signed)) × (c ≡ set_axiom xs) × IsStringOf ks xs
 of_command c ks i e =
     let a = axiom_only c ks e in

@@ -18,7 +18,7 @@ use Rattle.lsys_spec.specs.Output.{may_lack_memory}
 use Rattle.lsys_spec.proofs.WellNamed.{NamedLevel, level_named}
 use Rattle.lsys_laws.proofs.Prefixes.{begins, no_word}
 
--- what is said behind `refused` is another word than that for want of memory
+-- what is said after `refused` is another word than that for lack of memory
 abbrev pub OtherWord : List ℕ → Type 0
 OtherWord why = (rest : List ℕ) → begins (codes "memory") (why ++ 10 ∷ rest) ≡ false
 

@@ -8,7 +8,7 @@ use Rattle.lsys_spec.specs.LevelLaws.{may_differ, candidate_visits}
 use Rattle.lsys_spec.specs.Replies.{reply}
 use Rattle.lsys_spec.specs.Output.{out, none, last_system}
 
--- the system behind a script, and its levels
+-- the system after a script, and its levels
 abbrev after : List ℕ → System
 after script = last_system (out (reply 100000) script none)
 
@@ -21,7 +21,7 @@ questions_after script = questions (after script) (levels_after script)
 abbrev start : List ℕ
 start = codes "axiom ABCDAE\nproduction p: A > B => X\ndepth 1\n"
 
--- of each question behind the edit, whether it is a candidate
+-- of each question after the edit, whether it is a candidate
 abbrev candidates_behind : List ℕ → List Bool
 candidates_behind edit = map (may_differ (after start) (after (start ++ edit)) (levels_after start) (levels_after (start ++ edit))) (questions_after (start ++ edit))
 
@@ -40,7 +40,7 @@ ignored_touches = refl
 pub ignored_needs_none : map (is_needed (questions_after start)) (questions_after (start ++ codes "ignore Z\n")) ≡ false ∷ false ∷ []
 ignored_needs_none = refl
 
--- of each question behind the second script, whether it is a candidate where the first one was behind it
+-- of each question after the second script, whether it is a candidate where the first one was after it
 abbrev candidates_from : List ℕ → List ℕ → List Bool
 candidates_from old new = map (may_differ (after old) (after new) (levels_after old) (levels_after new)) (questions_after new)
 

@@ -9,7 +9,7 @@ use Rattle.lsys_laws.specs.FullExamples.{plain_rule}
 abbrev run : List ℕ → List ℕ
 run = run_with (reply 100000)
 
--- of 1,024 ignored modules the trace is too long, whatever is behind them: this comes before a fault of the condition, and
+-- of 1,024 ignored modules the trace is too long, whatever is after them: this comes before a fault of the condition, and
 -- before it is known that the context isn't there
 abbrev behind_ignored : List ℕ → List ℕ
 behind_ignored rule = run (codes "axiom A" ++ (replicate 1024 66 ++ (codes "C\nignore B\nproduction p: " ++ (rule ++ codes "\ndepth 1\n"))))

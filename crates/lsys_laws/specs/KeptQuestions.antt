@@ -29,7 +29,7 @@ questions_by_place s t x p (a ∷ rest) = question_here s t x p a ∷ questions_
 abbrev pub level_questions : System → ℕ → List LevelSymbol → List (Option Question)
 level_questions s t x = questions_by_place s t x 0 x
 
--- those that are kept of the level i places behind the first of these, which is level t: of the last level none
+-- those that are kept of the level i places after the first of these, which is level t: of the last level none
 abbrev pub kept_from : System → ℕ → List (List LevelSymbol) → ℕ → List (Option Question)
 kept_from s t [] i = []
 kept_from s t (x ∷ []) i = []

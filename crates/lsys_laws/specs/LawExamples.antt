@@ -57,7 +57,7 @@ cut_places = refl
 pub kept_places : kept (λ p. p == 2) (letter_a ∷ a_cut ∷ Plain (a_module 66) ∷ Plain (a_module 67) ∷ []) ≡ a_module 65 ∷ a_module 67 ∷ []
 kept_places = refl
 
--- the end of a branch, behind a branch in it
+-- the end of a branch, after a branch in it
 pub nested_ends :
     map (close_of 0)
     ((Push [] ∷ a_module 65 ∷ Pop [] ∷ a_module 66 ∷ Pop [] ∷ []) ∷ (Push [] ∷ Push [] ∷ Pop [] ∷ Pop [] ∷ Pop [] ∷ []) ∷ (Push [] ∷ Pop [] ∷ []) ∷ [])
@@ -85,7 +85,7 @@ pub inverses :
     ≡ turn_right ∷ turn_left ∷ pitch_up ∷ pitch_down ∷ roll_right ∷ roll_left ∷ turn_round ∷ []
 inverses = refl
 
--- what may stand behind a token
+-- what may stand after a token
 pub tails_and_heads :
     map (λ t. map (may_follow t) (letter ∷ digit ∷ equals ∷ mark ∷ [])) (anything ∷ not_underscore ∷ not_plain ∷ not_digit ∷ not_equals ∷ [])
     ≡ (true ∷ true ∷ true ∷ true ∷ []) ∷ (true ∷ true ∷ true ∷ true ∷ []) ∷ (false ∷ false ∷ true ∷ true ∷ []) ∷ (true ∷ false ∷ true ∷ true ∷ [])
@@ -140,7 +140,7 @@ pub entries_out :
     ≡ true ∷ false ∷ false ∷ []
 entries_out = refl
 
--- which replies are refusals, and which are so for want of memory
+-- which replies are refusals, and which are so for lack of memory
 pub kinds_of_replies :
     map (λ script. any_refusal (out (reply 100000) script none)) (codes "quit" ∷ codes ";\n" ∷ codes "axiom A" ∷ codes "axiom $" ∷ codes "string 1" ∷ [])
     ≡ false ∷ false ∷ false ∷ true ∷ true ∷ []
@@ -190,7 +190,7 @@ pub kinds_of_bytes :
     ∷ (false ∷ false ∷ true ∷ true ∷ false ∷ false ∷ true ∷ true ∷ false ∷ true ∷ false ∷ true ∷ true ∷ false ∷ []) ∷ []
 kinds_of_bytes = refl
 
--- a line that has no reply without its CR has none for want of memory
+-- a line that has no reply without its CR has none for lack of memory
 pub no_want_of_memory : output_text (out (reply 100000) (codes "\r\n \t\r\n;\r\nquit\r\n") (λ n. true)) ≡ codes "refused memory\n"
 no_want_of_memory = refl
 
@@ -212,7 +212,7 @@ pub places_of_tokens :
 unfolding digits
 places_of_tokens = refl
 
--- what a token leaves behind it, and what it begins with
+-- what a token leaves after it, and what it begins with
 pub ends_of_tokens :
     map ending (Bang ∷ Less ∷ Greater ∷ Number 1 ∷ Equal ∷ Plus ∷ Name (short 65) ∷ Name (long 65 (66 ∷ [])) ∷ Word (codes "a") ∷ AtMost ∷ [])
     ≡ not_equals ∷ not_equals ∷ not_equals ∷ not_digit ∷ anything ∷ anything ∷ not_underscore ∷ not_plain ∷ not_plain ∷ anything ∷ []

@@ -28,7 +28,7 @@ pub table_before_successor :
 unfolding digits
 table_before_successor = refl
 
--- a string may stand right behind the word, and is shown behind a blank: the printed line has a byte more
+-- a string may stand right after the word, and is shown after a blank: the printed line has a byte more
 pub string_behind_word :
     run (codes "axiom+(1)\nshow\n") ≡ codes "ok 0/0\nlattice square\nseed 0\naxiom +(1)\nignore\nschedule main\ndepth 0\n"
 unfolding digits

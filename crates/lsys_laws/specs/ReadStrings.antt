@@ -1,4 +1,4 @@
--- At which token a string behind `axiom` ends or stops, told by strings themselves.
+-- At which token a string after `axiom` ends or stops, told by strings themselves.
 use Rattle.std.specs.Prelude.{◌≡◌, List, ℕ, suc, take, ◌<◌, length, ◌≤◌}
 use Rattle.lsys_syntax.specs.Tokens.{Kind}
 use Rattle.lsys_syntax.specs.Strings.{Symbol, Signed}
@@ -31,7 +31,7 @@ NoStringGoesOnAtTheStop =
     (ks : List Kind) (place : ℕ) → axiom_verdict ks ≡ stops (suc place) → place < length ks
     → BeginsString (take (suc place) ks) → ⊥
 
--- where the reading stops behind the last token, the tokens are no whole string
+-- where the reading stops after the last token, the tokens are no whole string
 abbrev pub NoStringStopsAtItsEnd : Type 0
 NoStringStopsAtItsEnd =
     (ks : List Kind) (place : ℕ) → axiom_verdict ks ≡ stops (suc place) → length ks ≤ place

@@ -19,6 +19,6 @@ IsString ks = (xs : List (Symbol Signed)) × IsStringOf ks xs
 abbrev pub BeginsString : List Kind → Type 0
 BeginsString ks = (rest : List Kind) × IsString (ks ++ rest)
 
--- the verdict on a line whose first word is `axiom`, by the tokens behind it
+-- the verdict on a line whose first word is `axiom`, by the tokens after it
 abbrev pub axiom_verdict : List Kind → Verdict
 axiom_verdict ks = verdict (Word (codes "axiom") ∷ ks)

@@ -19,7 +19,7 @@ OtherRepliesDoNotSayRefused =
     → (reply limit s line).is_refusal ≡ false
     → IsFront (codes "refused ") (reply limit s line).text → ⊥
 
--- no other reply has the text of a refusal for want of memory
+-- no other reply has the text of a refusal for lack of memory
 abbrev pub WantOfMemoryHasItsOwnText : Type 0
 WantOfMemoryHasItsOwnText =
     (limit : ℕ) (s : System) (line : List ℕ) → WellSpelled s

@@ -2,13 +2,27 @@
 //!
 //! The functions here have empty bodies: the contract is a law about the definitions of `lsys_syntax` and `lsys_spec`.
 //! `specs/` has what the laws speak of besides, and examples that the checker computes.
+//!
+//! Laws of what an edit disturbs: what a pass stands on that repairs the levels of an old derivation one after the other.
+//!
+//! The functions here have empty bodies: the contract is a law about the definitions of `lsys_spec`.
 #![tactic(auto)]
 
+pub mod candidates;
+pub mod children;
+pub mod counts;
 pub mod edits;
 pub mod faults;
+pub mod mates;
 pub mod needs;
+pub mod nodes;
 pub mod pictures;
 pub mod replies;
 pub mod scripts;
+pub mod seams;
+pub mod seats;
+mod seeds;
 pub mod sessions;
 pub mod strings;
+
+pub use seeds::law_of_seeds;

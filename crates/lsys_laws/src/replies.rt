@@ -3,8 +3,8 @@
 ghost use Rattle.lsys_laws.specs.ToldReplies.{RefusalsSayRefused, OtherRepliesDoNotSayRefused, WantOfMemoryHasItsOwnText, TextsTellTheReplies};
 
 /// A refusal is told by its text: it is `refused`, a blank, why, and an LF; and a reply that is none never begins with
-/// `refused` and a blank. Want of memory has a text of its own, so the bytes that were written tell the replies, and
-/// with them which lines were refused for want of memory.
+/// `refused` and a blank. Out of memory has a text of its own, so the bytes that were written tell the replies, and
+/// with them which lines were refused for lack of memory.
 pub fn law_of_texts()
     ensures refusal { RefusalsSayRefused }
     ensures other { OtherRepliesDoNotSayRefused }

@@ -17,7 +17,7 @@ pub fn law_of_lines()
     ensures among { (bytes : List ℕ) → IsFront (lines_of (whole_lines bytes)) (lines_of bytes) }
 {}
 
-/// Take any front of a script's bytes, and any set of lines that are refused for want of memory: the replies to the
+/// Take any front of a script's bytes, and any set of lines that are refused for lack of memory: the replies to the
 /// front's whole lines are a front of the replies to the script.
 pub fn law_of_whole_lines()
     ensures { WholeLinesAreAnsweredFirst }

@@ -15,7 +15,7 @@ abbrev pub left_over : {S : Type 0} → (S → ℕ) → List Spotted → Option 
 left_over place_of x None = 0
 left_over place_of x (Some s) = length x - place_of s
 
--- the spot is the next to be copied: it stands behind those that are
+-- the spot is the next to be copied: it stands after those that are
 abbrev pub IsNext : {S : Type 0} → (S → ℕ) → (S → ℕ) → List Spotted → ℕ → Option S → List Symbol → Type 0
 IsNext level_of place_of x level None symbols = length symbols ≡ length x
 IsNext level_of place_of x level (Some s) symbols = (level_of s ≡ level) × (place_of s ≡ length symbols) × (place_of s < length x)

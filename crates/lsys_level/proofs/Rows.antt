@@ -16,7 +16,7 @@ use Rattle.lsys_level.specs.Places.{seen_in, seen_by_kind, spotted, spots_of, ba
 use Rattle.lsys_region.proofs.ListLemmas.{slice_get-push_cases}
 use Rattle.lsys_level.proofs.Naming.{mates_named}
 
--- 1. what stood in a list still stands there when more is behind it
+-- 1. what stood in a list still stands there when more is after it
 
 take_drop_on : (values more : List ℤ) (n k : ℕ) → n + k ≤ length values → take k (drop n (values ++ more)) ≡ take k (drop n values)
 take_drop_on values more n zero h = refl

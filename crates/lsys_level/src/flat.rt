@@ -49,7 +49,7 @@ impl FlatLevels {
     ///
     /// # Errors
     ///
-    /// Want of memory. The levels are then as they were.
+    /// Out of memory. The levels are then as they were.
     pub fn push_level(
         &mut self,
         symbols: SymbolList,

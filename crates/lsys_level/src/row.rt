@@ -14,7 +14,7 @@ use lsys_module::Symbol;
 use std::alloc::{AllocError, Global};
 use std::marker::Model;
 
-/// The symbols of a level, and the parameters of all its modules, one module behind the other.
+/// The symbols of a level, and the parameters of all its modules, one module after the other.
 #[derive(Drop)]
 pub(crate) struct Row {
     places: Vec<Place>,

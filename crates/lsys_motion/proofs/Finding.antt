@@ -12,7 +12,7 @@ use Rattle.lsys_motion.proofs.Seeing.{seen_twice}
 
 -- 1. lists
 
--- the n-th of two lists, one behind the other
+-- the n-th of two lists, one after the other
 get_first : {A : Type 0} (xs ys : List A) (n : ℕ) → n < length xs → slice_get (xs ++ ys) n ≡ slice_get xs n
 get_first [] ys n h = absurd (omega arith)
 get_first (x ∷ xs) ys zero h = refl
@@ -67,7 +67,7 @@ in_first : (l : Lattice) (g h : Stand) (inner : Trees) (qs : List ImagePiece) (n
     → found l 0 (record { symbols = length (stands_of l inner); pieces = inner_size l inner; start = g } ∷ qs) n h ≡ found l 0 qs n (stand_from l h g)
 in_first l g h inner qs n a b = rw (a, b) refl
 
--- behind it
+-- after it
 past_first : (l : Lattice) (g h : Stand) (inner : Trees) (qs : List ImagePiece) (n : ℕ) → nat_lt n (length (stands_of l inner)) ≡ false
     → found l 0 (record { symbols = length (stands_of l inner); pieces = inner_size l inner; start = g } ∷ (pieces_of l inner ++ qs)) n h ≡ found l 0 qs (n - length (stands_of l inner)) h
 past_first l g h inner qs n a =
@@ -77,7 +77,7 @@ past_first l g h inner qs n a =
 not_one : (n : ℕ) → 0 < n → (suc n == 1) ≡ false
 not_one n h = grind (arith, nat_tests)
 
--- what is found among the pieces that are in the first one, and among those behind it, is found among all
+-- what is found among the pieces that are in the first one, and among those after it, is found among all
 found_in : (l : Lattice) (g : Stand) (inner rest : Trees) (more : List ImagePiece) (n : ℕ) (h s : Stand)
     → ((f : Stand) → slice_get (stands_of l inner) n ≡ Some f → found l 0 (pieces_of l inner ++ (pieces_of l rest ++ more)) n (stand_from l h g) ≡ stand_from l (stand_from l h g) f)
     → ((m : ℕ) → slice_get (stands_of l rest) m ≡ Some s → found l 0 (pieces_of l rest ++ more) m h ≡ stand_from l h s)

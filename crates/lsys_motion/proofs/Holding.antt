@@ -30,7 +30,7 @@ near_beside l seen none u h k = k
 near_beside l seen (symbol g rest) u h k = (h.0, near_beside l seen rest u h.1 k)
 near_beside l seen (tree g inner rest) u h k = (h.0, h.1, near_beside l seen rest u h.2 k)
 
--- 2. trees behind what is held
+-- 2. trees after what is held
 
 map-map : {A B C : Type 0} (f : B → C) (g : A → B) (xs : List A) → map f (map g xs) ≡ map (λ x. f (g x)) xs
 map-map f g [] = refl

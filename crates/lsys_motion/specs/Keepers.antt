@@ -41,7 +41,7 @@ unended h = record { symbols = 0; pieces = 1; start = h }
 abbrev pub module_done : Lattice → S.ModuleName → List ℤ → Keeper → Keeper
 module_done l n ps k = record k { here = done l (act n ps) k.here }
 
--- behind a module the place is still small
+-- after a module the place is still small
 abbrev pub StaysSmall : Lattice → Module → Keeper → Type 0
 StaysSmall l m k = let k' = module_done l (module_name m.name) m.params k in HasSmallPlace k'.here
 

@@ -17,7 +17,7 @@ single h = record { symbols = 1; pieces = 1; start = h }
 
 -- 1. where a turtle stands before a symbol
 
--- Pieces stand side by side, the first of them behind so many that are passed, and are seen from a stand: the stand before symbol n of
+-- Pieces stand side by side, the first of them after so many that are passed, and are seen from a stand: the stand before symbol n of
 -- them, counted from 0. It is in the first piece that has more symbols than are left, and there in one of those that are in it.
 abbrev pub found : Lattice → ℕ → List ImagePiece → ℕ → Stand → Stand
 found l passed [] n h = h

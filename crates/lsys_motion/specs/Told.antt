@@ -1,4 +1,4 @@
--- What kept motions tell of a picture: how far it reaches, and where its turtle stands behind so many symbols of the image.
+-- What kept motions tell of a picture: how far it reaches, and where its turtle stands after so many symbols of the image.
 use Rattle.std.specs.Prelude.{ℤ, Option, Some, None, Result, Ok, Err, List, [], ◌∷◌, ℕ, ◌≡◌, option_map, slice_get}
 use Rattle.lsys_syntax.specs.Strings as S
 use Rattle.lsys_spec.specs.Systems.{System}
@@ -17,7 +17,7 @@ abbrev pub poses_after : Option Stepped → (Turtle → List Pose) → List Pose
 poses_after None rest = []
 poses_after (Some s) rest = rest s.turtle
 
--- where a turtle stands on its way over symbols: before the first, and behind each; up to one that would lead too far
+-- where a turtle stands on its way over symbols: before the first, and after each; up to one that would lead too far
 abbrev pub poses_from : Lattice → Turtle → List (S.Symbol ℤ) → List Pose
 poses_from l t [] = t.pose ∷ []
 poses_from l t (x ∷ xs) = t.pose ∷ poses_after (turtle_step l x t) (λ u. poses_from l u xs)
@@ -34,7 +34,7 @@ abbrev pub TellsBounds : Type 0
 TellsBounds =
     (s : System) (x : List L.LevelSymbol) (t : Track) → told s x ≡ Ok t → bounds s x ≡ Ok t.bounds
 
--- the pose of its turtle behind any number of symbols
+-- the pose of its turtle after any number of symbols
 abbrev pub TellsTurtles : Type 0
 TellsTurtles =
     (s : System) (x : List L.LevelSymbol) (t : Track) (n : ℕ) → told s x ≡ Ok t

@@ -31,7 +31,7 @@ pub(crate) fn stand_before<T: Lattice>(pieces: &[Piece<T>], symbol: u32) -> Stan
     here
 }
 
-/// What is behind so many pieces.
+/// What is after so many pieces.
 fn behind<T: Lattice>(pieces: &[Piece<T>], count: usize) -> &[Piece<T>]
     ensures { result.now ≡ drop count pieces.now }
 {

@@ -101,7 +101,7 @@ impl<T: Lattice> Keeper<T> {
         Ok(())
     }
 
-    /// Behind a module.
+    /// After a module.
     fn act(&mut self, symbol: &Module)
         requires { StaysSmall T.shape symbol.now self.old }
         ensures { self.new
@@ -110,7 +110,7 @@ impl<T: Lattice> Keeper<T> {
         self.here = self.here.done(Act::of(symbol));
     }
 
-    /// Behind a branch, if one is open; no piece is open last.
+    /// After a branch, if one is open; no piece is open last.
     fn restore(&mut self)
         requires { has_piece 0 self.old.marks ≡ false }
         ensures { self.new ≡ branch_ended self.old.marks self.old }

@@ -1,4 +1,4 @@
-//! Kept motions: how far a picture reaches, and where its turtle stands behind so many symbols of
+//! Kept motions: how far a picture reaches, and where its turtle stands after so many symbols of
 //! the image, told without walking over the image again.
 //!
 //! Motions are made of the forest of a derivation. Of each module above its last level they keep how

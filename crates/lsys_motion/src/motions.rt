@@ -57,7 +57,7 @@ impl<T: Lattice> Motions<T> {
     ///
     /// # Errors
     ///
-    /// The image's refusal; then the first module that would lead too far; or want of memory.
+    /// The image's refusal; then the first module that would lead too far; or lack of memory.
     pub fn new<A: Kept>(
         alloc: Global,
         forest: &Forest<A>,
@@ -98,7 +98,7 @@ impl<T: Lattice> Motions<T> {
         self.bounds
     }
 
-    /// Where the turtle stands behind the first `place` symbols of the image, at most `len`.
+    /// Where the turtle stands after the first `place` symbols of the image, at most `len`.
     ///
     /// It goes down from the axiom's pieces to the symbol's: past the pieces before it by their
     /// numbers of symbols, and into the one that holds it. So the time is that of the pieces beside

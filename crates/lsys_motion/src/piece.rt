@@ -5,7 +5,7 @@ use crate::stand::Stand;
 use lsys_lattice::Lattice;
 use std::marker::Model;
 
-/// A part of an image. The pieces that are in it stand behind it.
+/// A part of an image. The pieces that are in it stand after it.
 #[derive(Drop)]
 pub(crate) struct Piece<T: Lattice> {
     /// How many symbols are in it.

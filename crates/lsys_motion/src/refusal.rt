@@ -13,7 +13,7 @@ pub enum MotionRefusal {
     /// coordinate past 1,000,000,000 in magnitude. It is the first one.
     #[error("too far at module {module} of the image")]
     Far { module: u32 },
-    /// Want of memory.
+    /// Out of memory.
     #[error("out of memory")]
     Memory,
 }

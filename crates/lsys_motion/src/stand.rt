@@ -78,7 +78,7 @@ impl<T: Lattice> Stand<T> {
         }
     }
 
-    /// Behind a module that has a turtle do this.
+    /// After a module that has a turtle do this.
     pub(crate) fn done(&self, act: Act) -> Stand<T>
         requires { HasSmallPlace (done T.shape (act_of act) self.now) }
         ensures { result ≡ done T.shape (act_of act) self.now }
@@ -142,7 +142,7 @@ fn wide(place: &Place) -> Vector
     }
 }
 
-/// A coordinate behind so many steps in a direction.
+/// A coordinate after so many steps in a direction.
 fn moved(coordinate: i64, steps: i64, direction: i64) -> i64
     requires before { unsigned_abs coordinate ≤ 2 ^ 40 }
     requires behind { unsigned_abs (coordinate +ℤ steps *ℤ direction) ≤ 2 ^ 40 }

@@ -11,16 +11,16 @@ use Rattle.lsys_spec.specs.Levels.{level_balanced}
 use Rattle.lsys_spec.specs.Levels as L
 use Rattle.lsys_spec.specs.Standings.{mate_at}
 use Rattle.lsys_level.specs.Spots.{Spotted, named, level_by}
-use Rattle.lsys_change.specs.Nodes.{Kins, naming}
-use Rattle.lsys_change.specs.Seams.{node_before}
+use Rattle.lsys_laws.specs.Nodes.{Kins, naming}
+use Rattle.lsys_laws.specs.Seams.{node_before}
 use Rattle.lsys_match.specs.Kept.{Kept}
 use Rattle.lsys_forest.specs.Nodes.{Node, Nodes, with_node, with_answer}
 use Rattle.lsys_forest.specs.Answers.{answer_of}
 use Rattle.lsys_forest.specs.Rows.{kids_in, spot_in, level_nodes, level_spots}
 use Rattle.lsys_forest.proofs.StockLemmas.{put_same, put_other}
-use Rattle.lsys_kept.specs.Lineages.{kin_of, kins, names}
-use Rattle.lsys_kept.specs.Levels.{level_of, HaveLevels, answer_at}
-use Rattle.lsys_kept.specs.Neighbours.{Neighbours, neighbours_on}
+use Rattle.lsys_reads.specs.Lineages.{kin_of, kins, names}
+use Rattle.lsys_reads.specs.Levels.{level_of, HaveLevels, answer_at}
+use Rattle.lsys_reads.specs.Neighbours.{Neighbours, neighbours_on}
 
 pub record AreAlike (m m' : Nodes Kept) : Type 0 where
   pub kids : ◌≡◌ {A = ℕ → List ℕ} (λ k. kids_in (m' k)) (λ k. kids_in (m k))

@@ -9,10 +9,10 @@ use Rattle.lsys_forest.specs.Nodes.{Nodes}
 use Rattle.lsys_forest.specs.Groves.{IsRooted, changes_in, live_nodes}
 use Rattle.lsys_forest.specs.Rows.{level_nodes}
 use Rattle.lsys_forest.proofs.SoundLemmas.{AreSound-now}
-use Rattle.lsys_kept.specs.Meant.{levels_meant}
-use Rattle.lsys_kept.specs.Seats.{is_marked}
-use Rattle.lsys_repair.specs.Nexts.{AreClosed}
-use Rattle.lsys_repair.specs.Answers.{kept_successors}
+use Rattle.lsys_reads.specs.Meant.{levels_meant}
+use Rattle.lsys_reads.specs.Seats.{is_marked}
+use Rattle.lsys_children.specs.Nexts.{AreClosed}
+use Rattle.lsys_children.specs.Answers.{kept_successors}
 use Rattle.lsys_pass.specs.declared.sizes.Size.{Size}
 use Rattle.lsys_pass.specs.declared.state.PassState.TheVariants.{Level, Done, Failed}
 use Rattle.lsys_pass.specs.Sizes.{symbols_at, opens_at, with_open, with_level, HaveSizes, HaveSizesTo, SizesAt}

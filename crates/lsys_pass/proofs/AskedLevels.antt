@@ -11,11 +11,11 @@ use Rattle.lsys_forest.specs.Rows.{index_in, level_nodes, complete_levels, level
 use Rattle.lsys_forest.proofs.RowLemmas.{In_append, In_left, In_right, level_apart}
 use Rattle.lsys_forest.proofs.SoundLemmas.{some_of}
 use Rattle.lsys_forest.proofs.WalkLemmas.{get_In}
-use Rattle.lsys_kept.proofs.LevelLemmas.{get_index}
-use Rattle.lsys_kept.specs.Levels.{answer_at}
-use Rattle.lsys_repair.proofs.Listed.{nodes_on, Listing, list_begins, list_goes_on, list_ends, spot_is}
-use Rattle.lsys_candidates.specs.Asks.{AreSome}
-use Rattle.lsys_candidates.specs.Candidates.{AsksOn}
+use Rattle.lsys_reads.proofs.LevelLemmas.{get_index}
+use Rattle.lsys_reads.specs.Levels.{answer_at}
+use Rattle.lsys_children.proofs.Listed.{nodes_on, Listing, list_begins, list_goes_on, list_ends, spot_is}
+use Rattle.lsys_front.specs.Questioned.{AreSome}
+use Rattle.lsys_front.specs.Candidates.{AsksOn}
 use Rattle.lsys_front.specs.Asks.{IsIdle, MayBeAsked}
 use Rattle.lsys_front.proofs.Losing.{loses_none}
 use Rattle.lsys_pass.specs.declared.state.PassState.TheVariants.{Failed}

@@ -6,7 +6,7 @@ use Rattle.std.proofs.lemmas.Option.{none-some, same_Some}
 use Rattle.lsys_spec.specs.Rows.{In, AreApart}
 use Rattle.lsys_spec.specs.Systems.{System}
 use Rattle.lsys_spec.specs.Levels.{level_balanced}
-use Rattle.lsys_change.proofs.UpTo.{level_count}
+use Rattle.lsys_laws.proofs.UpTo.{level_count}
 use Rattle.lsys_level.specs.Spots.{Spotted, IsSpot, spots_at, level_by}
 use Rattle.lsys_match.specs.Kept.{Kept}
 use Rattle.lsys_match.specs.Asking.{HasQuestion}
@@ -20,10 +20,10 @@ use Rattle.lsys_forest.proofs.RowLemmas.{In_split, get_split, same_sides, level_
 use Rattle.lsys_forest.proofs.SoundLemmas.{AreSound-now, AreSound-then}
 use Rattle.lsys_forest.proofs.ViewLemmas.{is_spot, are_told, told_is}
 use Rattle.lsys_forest.proofs.WalkLemmas.{get_In}
-use Rattle.lsys_kept.proofs.LevelLemmas.{index_cases}
-use Rattle.lsys_kept.specs.Levels.{answer_at}
-use Rattle.lsys_kept.specs.Meant.{meant_to}
-use Rattle.lsys_candidates.specs.Asks.{AreSome}
+use Rattle.lsys_reads.proofs.LevelLemmas.{index_cases}
+use Rattle.lsys_reads.specs.Levels.{answer_at}
+use Rattle.lsys_reads.specs.Meant.{meant_to}
+use Rattle.lsys_front.specs.Questioned.{AreSome}
 use Rattle.lsys_pass.specs.declared.state.PassState.TheVariants.{Level}
 use Rattle.lsys_pass.specs.Places.{AreInOrderOnLevel}
 use Rattle.lsys_pass.specs.Stages.{IsAtLevel}
@@ -158,7 +158,7 @@ module _ (v : PassView) (t : ℕ) (h : IsPass v) (state : v.state ≡ Level t) w
   pub made_now : AllMade (now_in v) v.store
   made_now k a e = h.stored.made (AtNode k) a e
 
-  -- a pending node, with those that are pending before and behind it
+  -- a pending node, with those that are pending before and after it
   pub record IsAsked (node : ℕ) : Type 0 where
     pub n : Node Kept
     pub front : List ℕ

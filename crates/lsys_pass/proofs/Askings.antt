@@ -9,31 +9,31 @@ use Rattle.lsys_spec.specs.Levels.{ModuleValue}
 use Rattle.lsys_spec.specs.Equalities.{same_all, same_body}
 use Rattle.lsys_spec.proofs.Tests.{both}
 use Rattle.lsys_level.specs.Spots.{Module}
-use Rattle.lsys_change.specs.Nodes.{Kin}
-use Rattle.lsys_change.specs.Groups.{has_same_rules}
+use Rattle.lsys_laws.specs.Nodes.{Kin}
+use Rattle.lsys_laws.specs.Groups.{has_same_rules}
 use Rattle.lsys_match.specs.Kept.{Kept}
 use Rattle.lsys_forest.specs.Nodes.{Node}
 use Rattle.lsys_forest.specs.Groves.{Grove, IsLive, IsRooted, changes_in}
 use Rattle.lsys_forest.specs.Rows.{complete_levels, level_nodes, place_of_node}
 use Rattle.lsys_forest.proofs.RowLemmas.{In_append, In_left, In_right, level_depth}
 use Rattle.lsys_forest.proofs.SoundLemmas.{AreSound-now, AreSound-then}
-use Rattle.lsys_kept.specs.Lineages.{kin_of, names}
-use Rattle.lsys_kept.specs.Levels.{answer_at}
-use Rattle.lsys_kept.specs.Neighbours.{level_around}
-use Rattle.lsys_kept.specs.Seats.{HasSeat}
-use Rattle.lsys_kept.specs.Standings.{seen_at}
-use Rattle.lsys_kept.proofs.LevelLemmas.{got_in, place_in}
-use Rattle.lsys_repair.proofs.Depths.{on_level}
-use Rattle.lsys_candidates.specs.Repairs.{were}
-use Rattle.lsys_candidates.specs.Candidates.{AsksOn}
-use Rattle.lsys_candidates.specs.Finds.{IsBeside}
-use Rattle.lsys_candidates.specs.Found.{IsOther, IsAmong, SteppingNodes, AreAnswersRight}
-use Rattle.lsys_candidates.specs.Others.{RulesOf, are_alike, IsOtherwise}
-use Rattle.lsys_candidates.proofs.Alike.{alike_is}
-use Rattle.lsys_candidates.proofs.Gathering.{marked_or_not}
-use Rattle.lsys_candidates.proofs.Nodes.{has_asked}
-use Rattle.lsys_candidates.proofs.Readers.{reader_there}
-use Rattle.lsys_candidates.proofs.Spots.{is_in}
+use Rattle.lsys_reads.specs.Lineages.{kin_of, names}
+use Rattle.lsys_reads.specs.Levels.{answer_at}
+use Rattle.lsys_reads.specs.Neighbours.{level_around}
+use Rattle.lsys_reads.specs.Seats.{HasSeat}
+use Rattle.lsys_reads.specs.Standings.{seen_at}
+use Rattle.lsys_reads.proofs.LevelLemmas.{got_in, place_in}
+use Rattle.lsys_children.proofs.Depths.{on_level}
+use Rattle.lsys_front.specs.Repairs.{were}
+use Rattle.lsys_front.specs.Candidates.{AsksOn}
+use Rattle.lsys_front.specs.Finds.{IsBeside}
+use Rattle.lsys_front.specs.Found.{IsOther, IsAmong, SteppingNodes, AreAnswersRight}
+use Rattle.lsys_front.specs.Others.{RulesOf, are_alike, IsOtherwise}
+use Rattle.lsys_front.proofs.Alike.{alike_is}
+use Rattle.lsys_front.proofs.Gathering.{marked_or_not}
+use Rattle.lsys_front.proofs.Nodes.{has_asked}
+use Rattle.lsys_front.proofs.Readers.{reader_there}
+use Rattle.lsys_front.proofs.Spots.{is_in}
 use Rattle.lsys_front.specs.Asks.{MayBeAsked}
 use Rattle.lsys_front.proofs.Rooms.{before_in, complete_now}
 use Rattle.lsys_front.proofs.Standing.{at_level, live_at}

@@ -9,10 +9,10 @@ use Rattle.lsys_reads.specs.Relations.{Relations, SettledStay}
 use Rattle.lsys_forest.specs.Changes.{undone}
 use Rattle.lsys_forest.specs.Answers.{answers, kept_by, LiveApart, FreesAllBut}
 use Rattle.lsys_forest.specs.Groves.{Grove, now_of, rest_of, changes_in, live_nodes, kept_in}
-use Rattle.lsys_kept.specs.Names.{RunName, run_in, holds}
-use Rattle.lsys_kept.specs.Meant.{levels_meant}
-use Rattle.lsys_kept.specs.declared.seat.Seat.{Seat}
-use Rattle.lsys_kept.specs.Seats.{is_marked, HasSeat}
+use Rattle.lsys_reads.specs.Names.{RunName, run_in, holds}
+use Rattle.lsys_reads.specs.Meant.{levels_meant}
+use Rattle.lsys_reads.specs.declared.seat.Seat.{Seat}
+use Rattle.lsys_reads.specs.Seats.{is_marked, HasSeat}
 use Rattle.lsys_pass.specs.declared.work.Work.{Work}
 use Rattle.lsys_pass.specs.Works.{IsCleared}
 use Rattle.lsys_pass.specs.declared.sizes.Sizes.{Sizes}

@@ -16,8 +16,8 @@ use Rattle.lsys_spec.proofs.Equal.{same_question_refl}
 use Rattle.lsys_spec.proofs.Standings.{place_is}
 use Rattle.lsys_laws.specs.KeptQuestions.{where_grouped, question_here, questions_by_place, level_questions, kept_from, kept_at}
 use Rattle.lsys_laws.proofs.Lookups.{kept_there}
-use Rattle.lsys_change.specs.Passes.{module_question}
-use Rattle.lsys_change.proofs.UpTo.{level_count, grown_to}
+use Rattle.lsys_laws.specs.Passes.{module_question}
+use Rattle.lsys_laws.proofs.UpTo.{level_count, grown_to}
 use Rattle.lsys_match.specs.Kept.{Kept}
 use Rattle.lsys_match.specs.Stored.{answer_in}
 use Rattle.lsys_walks.specs.Stores.{Store}
@@ -30,9 +30,9 @@ use Rattle.lsys_forest.specs.Groves.{ReachedIn}
 use Rattle.lsys_forest.specs.Rows.{kids_in, kids_below, spot_in, level_nodes, level_spots}
 use Rattle.lsys_forest.proofs.RowLemmas.{In_left, In_right}
 use Rattle.lsys_forest.proofs.WalkLemmas.{In_at}
-use Rattle.lsys_kept.specs.Levels.{IsKeptFor, IsRight, IsAnsweredRight, answer_at}
-use Rattle.lsys_kept.specs.Meant.{levels_meant}
-use Rattle.lsys_kept.specs.declared.seat.Seat.{Seat}
+use Rattle.lsys_reads.specs.Levels.{IsKeptFor, IsRight, IsAnsweredRight, answer_at}
+use Rattle.lsys_reads.specs.Meant.{levels_meant}
+use Rattle.lsys_reads.specs.declared.seat.Seat.{Seat}
 use Rattle.lsys_reads.specs.Relations.{Relations}
 use Rattle.lsys_pass.specs.Rests.{IsResting}
 

@@ -8,30 +8,30 @@ use Rattle.lsys_syntax.specs.Strings as S
 use Rattle.lsys_spec.specs.Systems.{System, WellSpelled}
 use Rattle.lsys_spec.specs.Cuts.{cut}
 use Rattle.lsys_spec.specs.Meaning.{children, meaning_to}
-use Rattle.lsys_change.specs.Nodes.{AreOnce}
+use Rattle.lsys_laws.specs.Nodes.{AreOnce}
 use Rattle.lsys_match.specs.Kept.{Kept}
 use Rattle.lsys_forest.specs.Nodes.{Nodes}
 use Rattle.lsys_forest.specs.Changes.{Change, undone}
 use Rattle.lsys_forest.specs.Answers.{AnswerKeeper, IsHeld}
-use Rattle.lsys_kept.specs.Names.{run_in, holds}
+use Rattle.lsys_reads.specs.Names.{run_in, holds}
 use Rattle.lsys_forest.specs.Groves.{Grove, AreSound, IsRooted, IsLive, now_of, rest_of, changes_in, live_nodes, kept_in}
 use Rattle.lsys_forest.specs.Rows.{kids_in, level_nodes}
 use Rattle.lsys_forest.proofs.SoundLemmas.{AreSound-now}
-use Rattle.lsys_kept.specs.Lineages.{kins}
-use Rattle.lsys_kept.specs.Levels.{HaveLevels, answer_at}
-use Rattle.lsys_kept.specs.Meant.{meant_to}
-use Rattle.lsys_kept.specs.declared.seat.Seat.{Seat}
-use Rattle.lsys_kept.specs.Seats.{HasSeat, SameSeats, SameMarks, KeepsSeats}
-use Rattle.lsys_candidates.specs.Repairs.{SteppingSpots}
-use Rattle.lsys_brood.specs.Matches.{nodes_without}
-use Rattle.lsys_brood.specs.declared.need.Need.{Need}
-use Rattle.lsys_brood.specs.Children.{ToldNodes, HasRoomFor, SpendsNeed}
-use Rattle.lsys_repair.specs.Nexts.{Successors, HasWanted, node_symbol, wanted_count}
-use Rattle.lsys_repair.specs.Renewals.{AreSmall, AreAllUnder, AreRenewals, KeepsDeeper}
-use Rattle.lsys_repair.proofs.Finishing.{answers_stay}
-use Rattle.lsys_repair.proofs.Firsts.{name_root}
-use Rattle.lsys_repair.specs.Needs.{number_told, wanted_symbols, need_for}
-use Rattle.lsys_repair.specs.Made.{TellsAllOf}
+use Rattle.lsys_reads.specs.Lineages.{kins}
+use Rattle.lsys_reads.specs.Levels.{HaveLevels, answer_at}
+use Rattle.lsys_reads.specs.Meant.{meant_to}
+use Rattle.lsys_reads.specs.declared.seat.Seat.{Seat}
+use Rattle.lsys_reads.specs.Seats.{HasSeat, SameSeats, SameMarks, KeepsSeats}
+use Rattle.lsys_front.specs.Repairs.{SteppingSpots}
+use Rattle.lsys_children.specs.Matches.{nodes_without}
+use Rattle.lsys_children.specs.declared.need.Need.{Need}
+use Rattle.lsys_children.specs.Children.{ToldNodes, HasRoomFor, SpendsNeed}
+use Rattle.lsys_children.specs.Nexts.{Successors, HasWanted, node_symbol, wanted_count}
+use Rattle.lsys_children.specs.Renewals.{AreSmall, AreAllUnder, AreRenewals, KeepsDeeper}
+use Rattle.lsys_children.proofs.Finishing.{answers_stay}
+use Rattle.lsys_children.proofs.Firsts.{name_root}
+use Rattle.lsys_children.specs.Needs.{number_told, wanted_symbols, need_for}
+use Rattle.lsys_children.specs.Made.{TellsAllOf}
 use Rattle.lsys_front.specs.Fronts.{Differences, nothing, IsFirst, IsToldFirst}
 use Rattle.lsys_front.proofs.Differing.{first_differs, first_gone_each}
 use Rattle.lsys_pass.specs.declared.sizes.Size.{Size}
@@ -69,7 +69,7 @@ few_live g zs m m' root root' old new need same top is h few =
     let live = h.live in
     omega (arith, nodes, live, few)
 
--- they were made, and it was told what differs, behind what was told before
+-- they were made, and it was told what differs, after what was told before
 pub record IsMadeOf (x : Source) (limit : ℕ) (m : Nodes Kept) (before told : ToldNodes) : Type 0 where
   pub children : AreRenewals x.numbering x.seed x.old m x.root 0 (λ k. x.wanted) (x.root ∷ [])
   pub tells : TellsAllOf x.old m (x.root ∷ []) before told

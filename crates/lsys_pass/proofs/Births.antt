@@ -10,15 +10,15 @@ use Rattle.lsys_forest.specs.Answers.{answers}
 use Rattle.lsys_forest.specs.Groves.{Grove, IsRooted, AreSound, now_of, rest_of, changes_in, kept_in, live_nodes}
 use Rattle.lsys_forest.proofs.RowLemmas.{mirrored_In}
 use Rattle.lsys_forest.proofs.SoundLemmas.{AreSound-now}
-use Rattle.lsys_brood.specs.declared.need.Need.{Need}
-use Rattle.lsys_brood.specs.Children.{ToldNodes, HasRoomFor}
-use Rattle.lsys_repair.specs.Nexts.{Successors}
-use Rattle.lsys_repair.specs.Renewals.{Renewal, stayed, relisted, turned, came, AreRenewals}
-use Rattle.lsys_repair.specs.declared.parent.Parent.{Parent}
-use Rattle.lsys_repair.specs.Parents.{nodes_in, AreParents, HasParents, AreToldBy}
-use Rattle.lsys_repair.specs.Needs.{needs}
-use Rattle.lsys_repair.specs.Made.{IsChildOfAny, TellsAllOf, gone_of}
-use Rattle.lsys_repair.proofs.Among.{unmirrored}
+use Rattle.lsys_children.specs.declared.need.Need.{Need}
+use Rattle.lsys_children.specs.Children.{ToldNodes, HasRoomFor}
+use Rattle.lsys_children.specs.Nexts.{Successors}
+use Rattle.lsys_children.specs.Renewals.{Renewal, stayed, relisted, turned, came, AreRenewals}
+use Rattle.lsys_children.specs.declared.parent.Parent.{Parent}
+use Rattle.lsys_children.specs.Parents.{nodes_in, AreParents, HasParents, AreToldBy}
+use Rattle.lsys_children.specs.Needs.{needs}
+use Rattle.lsys_children.specs.Made.{IsChildOfAny, TellsAllOf, gone_of}
+use Rattle.lsys_children.proofs.Among.{unmirrored}
 use Rattle.lsys_front.specs.Fronts.{nothing}
 use Rattle.lsys_pass.specs.Beginnings.{KeepsNodes}
 use Rattle.lsys_pass.specs.Made.{KeepsAnswers, MakesBelow}

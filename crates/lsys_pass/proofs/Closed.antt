@@ -8,7 +8,7 @@ use Rattle.lsys_spec.specs.Rows.{In}
 use Rattle.lsys_spec.specs.Systems.{System}
 use Rattle.lsys_spec.specs.Levels.{level_balanced}
 use Rattle.lsys_spec.specs.Questions.{questions, need}
-use Rattle.lsys_change.proofs.UpTo.{level_count}
+use Rattle.lsys_laws.proofs.UpTo.{level_count}
 use Rattle.lsys_level.specs.Spots.{Spotted, level_by}
 use Rattle.lsys_walks.specs.Stores.{Store}
 use Rattle.lsys_match.specs.Kept.{Kept}
@@ -25,12 +25,12 @@ use Rattle.lsys_forest.proofs.DepthLemmas.{fits}
 use Rattle.lsys_forest.proofs.SoundLemmas.{AreSound-now, AreSound-rest, AreSound-then}
 use Rattle.lsys_forest.proofs.StockLemmas.{stored_of}
 use Rattle.lsys_forest.proofs.WalkLemmas.{get_In}
-use Rattle.lsys_kept.specs.declared.seat.Seat.{Seat}
-use Rattle.lsys_kept.specs.Neighbours.{neighbours_in, neighbours_on, IsOnLevel}
-use Rattle.lsys_kept.specs.Seats.{neighbours_at, SameMarks, KeepsSeats}
-use Rattle.lsys_kept.specs.Names.{run_in, holds}
-use Rattle.lsys_kept.specs.Levels.{answer_at}
-use Rattle.lsys_kept.specs.Meant.{levels_meant}
+use Rattle.lsys_reads.specs.declared.seat.Seat.{Seat}
+use Rattle.lsys_reads.specs.Neighbours.{neighbours_in, neighbours_on, IsOnLevel}
+use Rattle.lsys_reads.specs.Seats.{neighbours_at, SameMarks, KeepsSeats}
+use Rattle.lsys_reads.specs.Names.{run_in, holds}
+use Rattle.lsys_reads.specs.Levels.{answer_at}
+use Rattle.lsys_reads.specs.Meant.{levels_meant}
 use Rattle.lsys_pass.specs.declared.state.PassState.TheVariants.{Done}
 use Rattle.lsys_pass.specs.declared.work.Work.{Work}
 use Rattle.lsys_pass.specs.declared.sizes.Sizes.{Sizes}

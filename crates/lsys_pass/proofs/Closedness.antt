@@ -1,10 +1,10 @@
--- A level on which no cut reaches what stands behind.
+-- A level on which no cut reaches what stands after.
 use Rattle.std.proofs.Common.{◌≡◌, ℕ, false, List, [], ◌∷◌, Option, Some, None, refl, sym, ap, ◌∙◌, inl, inr}
 use Rattle.std.specs.Prelude.{option_map}
 use Rattle.std.proofs.lemmas.Option.{same_Some}
 use Rattle.lsys_spec.specs.Rows.{In}
-use Rattle.lsys_change.specs.Nodes.{Kin}
-use Rattle.lsys_change.specs.Children.{is_open}
+use Rattle.lsys_laws.specs.Nodes.{Kin}
+use Rattle.lsys_laws.specs.Children.{is_open}
 use Rattle.lsys_module.specs.Views.{string_of}
 use Rattle.lsys_level.specs.Spots.{Seen, Push, Pop, Module, Spotted}
 use Rattle.lsys_match.specs.Kept.{Kept}
@@ -13,12 +13,12 @@ use Rattle.lsys_forest.specs.Groves.{IsRooted, changes_in}
 use Rattle.lsys_forest.specs.Rows.{spot_in, level_nodes}
 use Rattle.lsys_forest.proofs.RowLemmas.{level_depth}
 use Rattle.lsys_forest.proofs.SoundLemmas.{AreSound-then}
-use Rattle.lsys_kept.proofs.LevelLemmas.{place_in}
-use Rattle.lsys_kept.specs.Lineages.{kin_of}
-use Rattle.lsys_kept.specs.Levels.{answer_at}
-use Rattle.lsys_repair.specs.Nexts.{Successors, AreClosed}
-use Rattle.lsys_repair.specs.Answers.{kept_successor, kept_successors}
-use Rattle.lsys_repair.proofs.Depths.{on_level}
+use Rattle.lsys_reads.proofs.LevelLemmas.{place_in}
+use Rattle.lsys_reads.specs.Lineages.{kin_of}
+use Rattle.lsys_reads.specs.Levels.{answer_at}
+use Rattle.lsys_children.specs.Nexts.{Successors, AreClosed}
+use Rattle.lsys_children.specs.Answers.{kept_successor, kept_successors}
+use Rattle.lsys_children.proofs.Depths.{on_level}
 use Rattle.lsys_pass.specs.declared.state.PassState.TheVariants.{Level}
 use Rattle.lsys_pass.specs.Sizes.{opens_at}
 use Rattle.lsys_pass.specs.Passes.{PassView, now_in, rest_in, IsPass}

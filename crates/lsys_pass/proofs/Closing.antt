@@ -10,10 +10,10 @@ use Rattle.lsys_spec.specs.Levels.{level_balanced}
 use Rattle.lsys_spec.specs.Levels as L
 use Rattle.lsys_spec.specs.Standings.{mate_at}
 use Rattle.lsys_level.specs.Spots.{Spotted, with_lineage, named, level_by}
-use Rattle.lsys_change.specs.Nodes.{Kin, AreOnce, Extends}
-use Rattle.lsys_change.specs.Seams.{node_before}
-use Rattle.lsys_change.proofs.Lineages.{stays}
-use Rattle.lsys_change.proofs.UpTo.{level_count}
+use Rattle.lsys_laws.specs.Nodes.{Kin, AreOnce, Extends}
+use Rattle.lsys_laws.specs.Seams.{node_before}
+use Rattle.lsys_laws.proofs.KeptLineages.{stays}
+use Rattle.lsys_laws.proofs.UpTo.{level_count}
 use Rattle.lsys_walks.specs.Stores.{Store}
 use Rattle.lsys_match.specs.Kept.{Kept}
 use Rattle.lsys_match.specs.KeptAnswers.{StaysMade}
@@ -26,12 +26,12 @@ use Rattle.lsys_forest.specs.Groves.{IsRooted, ReachedIn, Reached}
 use Rattle.lsys_forest.specs.Rows.{kids_in, spot_in, level_nodes, level_spots}
 use Rattle.lsys_forest.proofs.RowLemmas.{flat_In, level_depth}
 use Rattle.lsys_forest.proofs.WalkLemmas.{get_In}
-use Rattle.lsys_kept.specs.Lineages.{kin_of, kins, names}
-use Rattle.lsys_kept.specs.Levels.{HaveLevels, AnsweredAt, AnsweredIn, level_of, answer_at, tags_read, HasRead}
-use Rattle.lsys_kept.specs.Meant.{levels_meant}
-use Rattle.lsys_kept.specs.declared.seat.Seat.{Seat}
-use Rattle.lsys_kept.specs.Neighbours.{Neighbours, neighbours_on}
-use Rattle.lsys_kept.specs.Seats.{neighbours_at}
+use Rattle.lsys_reads.specs.Lineages.{kin_of, kins, names}
+use Rattle.lsys_reads.specs.Levels.{HaveLevels, AnsweredAt, AnsweredIn, level_of, answer_at, tags_read, HasRead}
+use Rattle.lsys_reads.specs.Meant.{levels_meant}
+use Rattle.lsys_reads.specs.declared.seat.Seat.{Seat}
+use Rattle.lsys_reads.specs.Neighbours.{Neighbours, neighbours_on}
+use Rattle.lsys_reads.specs.Seats.{neighbours_at}
 use Rattle.lsys_pass.specs.Rests.{IsResting}
 use Rattle.lsys_pass.specs.Stages.{Stage, was, IsDone}
 use Rattle.lsys_pass.proofs.Stores.{answered_stays, tags_stay}

@@ -8,9 +8,9 @@ use Rattle.lsys_forest.specs.Nodes.{Nodes}
 use Rattle.lsys_forest.specs.Groves.{IsRooted, changes_in}
 use Rattle.lsys_forest.specs.Rows.{spot_in, level_nodes}
 use Rattle.lsys_forest.proofs.SoundLemmas.{AreSound-now}
-use Rattle.lsys_kept.specs.Levels.{answer_at}
-use Rattle.lsys_repair.specs.Nexts.{AreClosed}
-use Rattle.lsys_repair.specs.Answers.{kept_successor, kept_successors}
+use Rattle.lsys_reads.specs.Levels.{answer_at}
+use Rattle.lsys_children.specs.Nexts.{AreClosed}
+use Rattle.lsys_children.specs.Answers.{kept_successor, kept_successors}
 use Rattle.lsys_pass.specs.declared.sizes.Size.{Size}
 use Rattle.lsys_pass.specs.declared.state.PassState.TheVariants.{Level, Done, Failed}
 use Rattle.lsys_pass.specs.Sizes.{with_open, with_level, HaveSizesTo, SizesAt}

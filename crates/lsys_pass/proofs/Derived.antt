@@ -3,8 +3,8 @@ use Rattle.std.proofs.Common.{◌≡◌, ◌↔◌, ◌+◌, ◌<◌, ◌^◌, �
 use Rattle.std.specs.Prelude.{OnOk, OnErr, IfErr, IfOk, option_map}
 use Rattle.lsys_spec.specs.Systems.{System}
 use Rattle.lsys_spec.specs.Levels.{LevelSymbol, lineage}
-use Rattle.lsys_change.specs.Nodes.{Kin, naming}
-use Rattle.lsys_change.proofs.Lineages.{stays, tags}
+use Rattle.lsys_laws.specs.Nodes.{Kin, naming}
+use Rattle.lsys_laws.proofs.KeptLineages.{stays, tags}
 use Rattle.lsys_rewrite.specs.declared.count.EditCount.{EditCount}
 use Rattle.lsys_rewrite.specs.declared.refusal.DeriveRefusal.{DeriveRefusal}
 use Rattle.lsys_rewrite.specs.declared.refusal.DeriveRefusal.TheVariants.{Fault, Limit, Memory}
@@ -16,8 +16,8 @@ use Rattle.lsys_forest.proofs.RowLemmas.{level_depth}
 use Rattle.lsys_forest.proofs.SoundLemmas.{AreSound-now}
 use Rattle.lsys_forest.proofs.ViewLemmas.{levels_by}
 use Rattle.lsys_forest.proofs.WalkLemmas.{get_In}
-use Rattle.lsys_kept.specs.Lineages.{kin_of, kins}
-use Rattle.lsys_kept.specs.Meant.{levels_or_none, levels_meant}
+use Rattle.lsys_reads.specs.Lineages.{kin_of, kins}
+use Rattle.lsys_reads.specs.Meant.{levels_or_none, levels_meant}
 use Rattle.lsys_pass.specs.declared.state.PassState.TheVariants.{Rest}
 use Rattle.lsys_pass.specs.Passes.{PassView, now_in, IsPass}
 use Rattle.lsys_pass.specs.Moves.{IsBack}

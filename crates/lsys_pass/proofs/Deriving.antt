@@ -8,7 +8,7 @@ use Rattle.std.proofs.lemmas.Option.{slice_get_within}
 use Rattle.lsys_spec.specs.Draws.{key_of}
 use Rattle.lsys_spec.specs.Systems.{System}
 use Rattle.lsys_spec.specs.Levels.{LevelSymbol, lineage, plain}
-use Rattle.lsys_change.proofs.UpTo.{level_count}
+use Rattle.lsys_laws.proofs.UpTo.{level_count}
 use Rattle.lsys_level.specs.Spots.{Seen, Push, Pop, Module, Spotted, with_lineage, named, level_by, spots_at, spotted_at}
 use Rattle.lsys_match.specs.Kept.{Kept}
 use Rattle.lsys_match.specs.Derivations.{StandsFor, IsDerived, symbol_at}
@@ -20,10 +20,10 @@ use Rattle.lsys_forest.specs.Groves.{IsAtRest, ReachedIn}
 use Rattle.lsys_forest.specs.Changes.{Change, undone}
 use Rattle.lsys_forest.specs.Rows.{spot_in, level_nodes, level_spots, complete_levels, AreBalancedTo}
 use Rattle.lsys_forest.proofs.ViewLemmas.{are_told, told_is}
-use Rattle.lsys_kept.specs.declared.seat.Seat.{Seat}
-use Rattle.lsys_kept.proofs.LevelLemmas.{lineage_at}
-use Rattle.lsys_kept.specs.Lineages.{names}
-use Rattle.lsys_kept.specs.Meant.{levels_meant}
+use Rattle.lsys_reads.specs.declared.seat.Seat.{Seat}
+use Rattle.lsys_reads.proofs.LevelLemmas.{lineage_at}
+use Rattle.lsys_reads.specs.Lineages.{names}
+use Rattle.lsys_reads.specs.Meant.{levels_meant}
 use Rattle.lsys_pass.specs.declared.sizes.Size.{Size}
 use Rattle.lsys_pass.specs.declared.state.PassState.TheVariants.{Rest}
 use Rattle.lsys_pass.specs.Rests.{IsResting}
@@ -195,7 +195,7 @@ module _ (v : PassView) (h : IsPass v) (q : IsQuiet v) where
   pub derived : IsDerived v.system v.limit (pass_levels v)
   derived = record { meant = xs; is = r.is; view = stands_for }
 
-  -- behind the last level there are no nodes
+  -- after the last level there are no nodes
   pub none_behind : (t : ℕ) → v.system.depth + 1 ≤ t → level_nodes (now_in v) v.forest.root t ≡ []
   none_behind t g = none_past v.system v.limit (now_in v) v.forest.root v.store v.reads v.seats r t (let c = levels_many in omega (arith, c, g))
 

@@ -10,13 +10,13 @@ use Rattle.lsys_spec.proofs.Needs.{derived, need_within}
 use Rattle.lsys_rewrite.specs.declared.count.EditCount.{EditCount}
 use Rattle.lsys_match.specs.Kept.{Kept}
 use Rattle.lsys_match.specs.Derivations.{AreMeant, IsCount, Rises, most_read}
-use Rattle.lsys_change.specs.Nodes.{AreOnce, Extends}
+use Rattle.lsys_laws.specs.Nodes.{AreOnce, Extends}
 use Rattle.lsys_forest.specs.Nodes.{Node, Nodes}
 use Rattle.lsys_forest.specs.Changes.{undone}
 use Rattle.lsys_forest.specs.Groves.{ReachedIn, Reached, changes_in}
 use Rattle.lsys_forest.proofs.SoundLemmas.{AreSound-now}
-use Rattle.lsys_kept.specs.Lineages.{kins}
-use Rattle.lsys_kept.specs.Meant.{levels_or_none, levels_meant}
+use Rattle.lsys_reads.specs.Lineages.{kins}
+use Rattle.lsys_reads.specs.Meant.{levels_or_none, levels_meant}
 use Rattle.lsys_pass.specs.declared.state.PassState.{PassState}
 use Rattle.lsys_pass.specs.declared.state.PassState.TheVariants.{Rest, Level, Done, Failed}
 use Rattle.lsys_pass.specs.Stages.{IsDone}

@@ -7,7 +7,7 @@ use Rattle.lsys_forest.specs.Changes.{Change}
 use Rattle.lsys_forest.specs.Groves.{IsRooted}
 use Rattle.lsys_forest.specs.Rows.{kids_in, kids_below, level_nodes}
 use Rattle.lsys_forest.proofs.RowLemmas.{In_append, flat_In, child, level_depth}
-use Rattle.lsys_repair.proofs.Renewing.{in_cases}
+use Rattle.lsys_children.proofs.Renewing.{in_cases}
 use Rattle.lsys_front.specs.Ends.{ended_node, AreEnded}
 
 module _ {A : Type 0} where

@@ -8,9 +8,9 @@ use Rattle.std.proofs.lemmas.Option.{none-some, same_Some}
 use Rattle.lsys_spec.specs.Rows.{In, AreApart, first_in}
 use Rattle.lsys_spec.specs.Meaning.{meaning, meaning_to}
 use Rattle.lsys_spec.specs.Standings.{mate_at}
-use Rattle.lsys_change.specs.Nodes.{Kin, Kins, AreOnce}
-use Rattle.lsys_change.specs.Seams.{node_before}
-use Rattle.lsys_change.proofs.UpTo.{level_count}
+use Rattle.lsys_laws.specs.Nodes.{Kin, Kins, AreOnce}
+use Rattle.lsys_laws.specs.Seams.{node_before}
+use Rattle.lsys_laws.proofs.UpTo.{level_count}
 use Rattle.lsys_level.specs.Spots.{Spotted, named}
 use Rattle.lsys_match.specs.Kept.{Kept}
 use Rattle.lsys_forest.specs.Nodes.{Node, Nodes}
@@ -19,15 +19,15 @@ use Rattle.lsys_forest.specs.Rows.{kids_below, level_nodes, level_spots, complet
 use Rattle.lsys_forest.proofs.RowLemmas.{In_append, In_left, In_right, apart_append, level_depth, level_apart}
 use Rattle.lsys_forest.proofs.SoundLemmas.{AreSound-now, AreSound-then}
 use Rattle.lsys_forest.proofs.ViewLemmas.{are_told}
-use Rattle.lsys_kept.specs.Lineages.{kin_of, kins}
-use Rattle.lsys_kept.specs.Levels.{HaveLevels, answer_at}
-use Rattle.lsys_kept.specs.Meant.{levels_meant, meant_to}
-use Rattle.lsys_kept.specs.Neighbours.{Neighbours, neighbours_on}
-use Rattle.lsys_kept.specs.Seats.{neighbours_at}
-use Rattle.lsys_repair.proofs.Renewing.{in_cases}
-use Rattle.lsys_candidates.specs.Repairs.{Repair, are}
-use Rattle.lsys_candidates.specs.Repairs as R
-use Rattle.lsys_candidates.specs.Found.{LevelChanges}
+use Rattle.lsys_reads.specs.Lineages.{kin_of, kins}
+use Rattle.lsys_reads.specs.Levels.{HaveLevels, answer_at}
+use Rattle.lsys_reads.specs.Meant.{levels_meant, meant_to}
+use Rattle.lsys_reads.specs.Neighbours.{Neighbours, neighbours_on}
+use Rattle.lsys_reads.specs.Seats.{neighbours_at}
+use Rattle.lsys_children.proofs.Renewing.{in_cases}
+use Rattle.lsys_front.specs.Repairs.{Repair, are}
+use Rattle.lsys_front.specs.Repairs as R
+use Rattle.lsys_front.specs.Found.{LevelChanges}
 use Rattle.lsys_front.specs.Ends.{ended_node, AreEnded, is_answered, answered_in, rows_from}
 use Rattle.lsys_front.specs.LastLevels.{IsLevelEnded, IsBehindAll, IsLastLevel, HadAnswerBehind, HasAllBehind, all_below}
 use Rattle.lsys_front.proofs.RowsBelow.{filter_in, in_filter, filter_apart, answered, is_answered_by}
@@ -47,7 +47,7 @@ use Rattle.lsys_pass.proofs.Failing.{still_failed, stored_less}
 -- 1. the level ends
 
 -- By this forest the level of the repair is the last one, and these are the nodes that it drops: those of the level that kept an
--- answer, and those behind it that had one.
+-- answer, and those after it that had one.
 pub record EndsBy (r : Repair) (f : Grove Kept) (more : List ℕ) : Type 0 where
   pub ended : IsLevelEnded r (now_of f)
   pub root : f.root ≡ r.forest.root

@@ -6,7 +6,7 @@ use Rattle.lsys_spec.specs.Meaning.{next_level, meaning_to}
 use Rattle.lsys_rewrite.specs.declared.refusal.DeriveRefusal.{DeriveRefusal}
 use Rattle.lsys_rewrite.specs.declared.refusal.DeriveRefusal.TheVariants.{Memory}
 use Rattle.lsys_match.specs.Derivations.{IsLevelRefusal}
-use Rattle.lsys_kept.specs.Meant.{level_to}
+use Rattle.lsys_reads.specs.Meant.{level_to}
 use Rattle.lsys_pass.specs.declared.state.PassState.TheVariants.{Level, Failed}
 use Rattle.lsys_pass.specs.Stages.{IsAtLevel}
 use Rattle.lsys_pass.specs.Passes.{PassView, stage_of, IsPass}

@@ -6,8 +6,8 @@ use Rattle.lsys_walks.specs.Stores.{Store}
 use Rattle.lsys_match.specs.Kept.{Kept}
 use Rattle.lsys_forest.specs.Nodes.{Nodes}
 use Rattle.lsys_forest.specs.Groves.{Grove, AreSound, now_of, changes_in, live_nodes}
-use Rattle.lsys_kept.specs.Meant.{levels_meant}
-use Rattle.lsys_kept.specs.Seats.{is_marked, KeepsSeats}
+use Rattle.lsys_reads.specs.Meant.{levels_meant}
+use Rattle.lsys_reads.specs.Seats.{is_marked, KeepsSeats}
 use Rattle.lsys_front.specs.Losses.{LosesOnly}
 use Rattle.lsys_pass.specs.declared.state.PassState.TheVariants.{Failed}
 use Rattle.lsys_pass.specs.Sizes.{HaveSizes, SizesAt}

@@ -9,7 +9,7 @@ use Rattle.lsys_spec.specs.Levels as L
 use Rattle.lsys_rewrite.specs.declared.refusal.FaultKind.{FaultKind}
 use Rattle.lsys_pass.specs.declared.fault.Faulted.{Faulted}
 use Rattle.lsys_level.specs.Spots.{Spotted, with_lineage, named, level_by}
-use Rattle.lsys_change.proofs.Lineages.{stays}
+use Rattle.lsys_laws.proofs.KeptLineages.{stays}
 use Rattle.lsys_walks.specs.Stores.{Store}
 use Rattle.lsys_match.specs.Kept.{Kept}
 use Rattle.lsys_reads.specs.Relations.{Relations, is_pending, pairs_have}
@@ -19,11 +19,11 @@ use Rattle.lsys_forest.specs.Groves.{IsRooted, Reached}
 use Rattle.lsys_forest.specs.Rows.{level_nodes, level_spots, spot_in}
 use Rattle.lsys_forest.proofs.RowLemmas.{level_depth}
 use Rattle.lsys_forest.proofs.WalkLemmas.{get_In}
-use Rattle.lsys_kept.specs.declared.seat.Seat.{Seat}
-use Rattle.lsys_kept.specs.Seats.{SameSeats}
-use Rattle.lsys_kept.specs.Lineages.{kin_of, kins, names}
-use Rattle.lsys_kept.specs.Levels.{AnsweredAt, AnsweredIn, level_of, answer_at, HasRead}
-use Rattle.lsys_kept.specs.Meant.{level_to, IsNeeded}
+use Rattle.lsys_reads.specs.declared.seat.Seat.{Seat}
+use Rattle.lsys_reads.specs.Seats.{SameSeats}
+use Rattle.lsys_reads.specs.Lineages.{kin_of, kins, names}
+use Rattle.lsys_reads.specs.Levels.{AnsweredAt, AnsweredIn, level_of, answer_at, HasRead}
+use Rattle.lsys_reads.specs.Meant.{level_to, IsNeeded}
 use Rattle.lsys_pass.specs.Rests.{IsResting}
 use Rattle.lsys_pass.specs.Stages.{Stage, was, Rests, fault_in, AreNoted, HasFault, OutcomeBy, IsNeededAt, HasSeats, IsAtLevel, IsDone}
 use Rattle.lsys_pass.specs.Advances.{IsAskedTo, KeepsRest, Makes, BeginsAnew, Advances, HasLastLevel}

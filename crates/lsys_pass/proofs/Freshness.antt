@@ -8,44 +8,44 @@ use Rattle.lsys_spec.specs.Rows.{In}
 use Rattle.lsys_spec.specs.Systems.{System}
 use Rattle.lsys_spec.specs.Levels.{level_balanced}
 use Rattle.lsys_spec.specs.Meaning.{meaning_to}
-use Rattle.lsys_change.specs.Nodes.{Kin, AreOnce, Extends}
-use Rattle.lsys_change.proofs.UpTo.{level_count}
+use Rattle.lsys_laws.specs.Nodes.{Kin, AreOnce, Extends}
+use Rattle.lsys_laws.proofs.UpTo.{level_count}
 use Rattle.lsys_level.specs.Spots.{Spotted, level_by}
 use Rattle.lsys_match.specs.Kept.{Kept}
 use Rattle.lsys_forest.specs.Nodes.{Node, Nodes}
 use Rattle.lsys_forest.specs.Answers.{AnswerKeeper, answer_of, IsHeld}
-use Rattle.lsys_kept.specs.Names.{run_in, holds}
+use Rattle.lsys_reads.specs.Names.{run_in, holds}
 use Rattle.lsys_forest.specs.Groves.{Grove, IsLive, IsRooted, now_of, rest_of, changes_in}
 use Rattle.lsys_forest.specs.Rows.{kids_in, kids_below, level_nodes, level_spots, AreBalancedTo}
 use Rattle.lsys_forest.proofs.RowLemmas.{In_append, level_depth}
 use Rattle.lsys_forest.proofs.SoundLemmas.{some_of}
 use Rattle.lsys_forest.proofs.ViewLemmas.{are_told}
-use Rattle.lsys_brood.specs.declared.need.Need.{Need}
-use Rattle.lsys_brood.specs.Children.{ToldNodes, KeepsChildren}
-use Rattle.lsys_kept.specs.Lineages.{kin_of, kins}
-use Rattle.lsys_kept.specs.Levels.{HaveLevels, AnsweredAt, answer_at}
-use Rattle.lsys_kept.specs.Meant.{levels_meant, meant_to}
-use Rattle.lsys_kept.specs.declared.seat.Seat.{Seat}
-use Rattle.lsys_kept.specs.Neighbours.{neighbours_in}
-use Rattle.lsys_kept.specs.Seats.{neighbours_at, HasSeat, SameSeats, SameMarks, KeepsSeats}
-use Rattle.lsys_kept.specs.Standings.{AreSeated}
-use Rattle.lsys_kept.specs.Looks.{AddsBelow}
+use Rattle.lsys_children.specs.declared.need.Need.{Need}
+use Rattle.lsys_children.specs.Children.{ToldNodes, KeepsChildren}
+use Rattle.lsys_reads.specs.Lineages.{kin_of, kins}
+use Rattle.lsys_reads.specs.Levels.{HaveLevels, AnsweredAt, answer_at}
+use Rattle.lsys_reads.specs.Meant.{levels_meant, meant_to}
+use Rattle.lsys_reads.specs.declared.seat.Seat.{Seat}
+use Rattle.lsys_reads.specs.Neighbours.{neighbours_in}
+use Rattle.lsys_reads.specs.Seats.{neighbours_at, HasSeat, SameSeats, SameMarks, KeepsSeats}
+use Rattle.lsys_reads.specs.Standings.{AreSeated}
+use Rattle.lsys_reads.specs.Looks.{AddsBelow}
 use Rattle.lsys_front.specs.Turned.{IsSameLevel}
 use Rattle.lsys_front.proofs.TurnedLemmas.{same_on}
-use Rattle.lsys_candidates.specs.Repairs.{Repair, SteppingSpots, were, are}
-use Rattle.lsys_candidates.specs.Found.{Differs}
-use Rattle.lsys_candidates.proofs.Spots.{is_in, sound_old, sound_new}
-use Rattle.lsys_repair.specs.Nexts.{AreLevels, HaveWanted, wanted_count}
-use Rattle.lsys_repair.specs.Answers.{kept_successors, AreAnswered}
-use Rattle.lsys_repair.specs.Renewals.{AreRenewals, KeepsDeeper}
-use Rattle.lsys_repair.proofs.Above.{upper_levels}
-use Rattle.lsys_repair.proofs.Finishing.{answered_level, answers_above}
-use Rattle.lsys_repair.proofs.Lengths.{kids_count, below_count}
-use Rattle.lsys_repair.proofs.Renewing.{keeps_upper, parent_stays}
-use Rattle.lsys_repair.proofs.Walks.{level_walked}
-use Rattle.lsys_repair.specs.declared.parent.Parent.{Parent}
-use Rattle.lsys_repair.specs.Parents.{nodes_in}
-use Rattle.lsys_repair.specs.Needs.{needs}
+use Rattle.lsys_front.specs.Repairs.{Repair, SteppingSpots, were, are}
+use Rattle.lsys_front.specs.Found.{Differs}
+use Rattle.lsys_front.proofs.Spots.{is_in, sound_old, sound_new}
+use Rattle.lsys_children.specs.Nexts.{AreLevels, HaveWanted, wanted_count}
+use Rattle.lsys_children.specs.Answers.{kept_successors, AreAnswered}
+use Rattle.lsys_children.specs.Renewals.{AreRenewals, KeepsDeeper}
+use Rattle.lsys_children.proofs.Above.{upper_levels}
+use Rattle.lsys_children.proofs.Finishing.{answered_level, answers_above}
+use Rattle.lsys_children.proofs.Lengths.{kids_count, below_count}
+use Rattle.lsys_children.proofs.Renewing.{keeps_upper, parent_stays}
+use Rattle.lsys_children.proofs.Walks.{level_walked}
+use Rattle.lsys_children.specs.declared.parent.Parent.{Parent}
+use Rattle.lsys_children.specs.Parents.{nodes_in}
+use Rattle.lsys_children.specs.Needs.{needs}
 use Rattle.lsys_front.specs.Fronts.{Differences, IsLevelFront, MakesNext, IsToldNext, next_of, StandOn, LooksBelow}
 use Rattle.lsys_front.proofs.Differing.{kept_families, gone_each, next_differs}
 use Rattle.lsys_front.proofs.NextLooks.{next_sound, next_were, touched_are, next_looks}

@@ -9,10 +9,10 @@ use Rattle.lsys_forest.specs.Nodes.{Nodes}
 use Rattle.lsys_forest.specs.Groves.{Grove, IsRooted, now_of, rest_of, changes_in}
 use Rattle.lsys_forest.specs.Rows.{level_nodes, level_spots}
 use Rattle.lsys_forest.proofs.RowLemmas.{In_append}
-use Rattle.lsys_kept.specs.Levels.{answer_at}
-use Rattle.lsys_kept.specs.declared.seat.Seat.{Seat}
-use Rattle.lsys_kept.specs.Standings.{seen_at}
-use Rattle.lsys_candidates.specs.Repairs.{Repair, now, rest, were, are}
+use Rattle.lsys_reads.specs.Levels.{answer_at}
+use Rattle.lsys_reads.specs.declared.seat.Seat.{Seat}
+use Rattle.lsys_reads.specs.Standings.{seen_at}
+use Rattle.lsys_front.specs.Repairs.{Repair, now, rest, were, are}
 use Rattle.lsys_front.specs.Turned.{AreTurnedBy}
 use Rattle.lsys_front.proofs.TurnedLemmas.{same_turned}
 use Rattle.lsys_front.specs.Fronts.{Differences, IsLevelFront}
@@ -97,7 +97,7 @@ front_stays r h st x seats d f =
 
 -- 2. the nodes with another answer
 
--- Of these nodes the first ones, so many, are on levels above level t; and those behind them on level t.
+-- Of these nodes the first ones, so many, are on levels above level t; and those after them on level t.
 pub record AreByLevel (levels : ℕ → List ℕ) (t first : ℕ) (nodes : List ℕ) : Type 0 where
   pub within : first ≤ length nodes
   pub before : (k : ℕ) → In k (take first nodes) → (u : ℕ) × (u < t) × In k (levels u)

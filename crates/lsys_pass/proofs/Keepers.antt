@@ -19,8 +19,8 @@ use Rattle.lsys_forest.specs.Changes.{Change, OldAnswer, undone}
 use Rattle.lsys_forest.specs.Answers.{AnswerKeeper, AtNode, AtChange, answer_of, old_answer, answers, kept_by, IsHeld, LiveApart, FreesAllBut}
 use Rattle.lsys_forest.proofs.StockLemmas.{put_same, put_other}
 use Rattle.lsys_forest.proofs.SoundLemmas.{IsSet, set_answer, set_sound, set_back, AreSound-push, AreSound-rest, AreSound-now, AreSound-then}
-use Rattle.lsys_kept.specs.Names.{RunName, RunList, InTraces, InValues, Entries, Values, run_in, holds}
-use Rattle.lsys_kept.specs.Levels.{answer_at}
+use Rattle.lsys_reads.specs.Names.{RunName, RunList, InTraces, InValues, Entries, Values, run_in, holds}
+use Rattle.lsys_reads.specs.Levels.{answer_at}
 use Rattle.lsys_pass.specs.Stages.{IsStored}
 use Rattle.lsys_pass.proofs.Stores.{AllMade, AllStay}
 

@@ -7,17 +7,17 @@ use Rattle.lsys_spec.specs.Systems.{System}
 use Rattle.lsys_spec.specs.Levels.{LevelSymbol}
 use Rattle.lsys_spec.specs.Meaning.{OverLimit, first_level, next_level, last_level, within_limit, meaning_to}
 use Rattle.lsys_spec.proofs.LevelInduction.{ok_parts}
-use Rattle.lsys_change.proofs.UpTo.{level_count}
+use Rattle.lsys_laws.proofs.UpTo.{level_count}
 use Rattle.lsys_level.specs.Spots.{named}
 use Rattle.lsys_forest.specs.Groves.{changes_in}
 use Rattle.lsys_forest.specs.Rows.{spot_in, level_nodes, level_spots}
 use Rattle.lsys_forest.proofs.RowLemmas.{level_apart}
-use Rattle.lsys_kept.specs.Lineages.{names}
-use Rattle.lsys_kept.specs.Meant.{meant_to, level_to}
-use Rattle.lsys_repair.specs.Answers.{kept_successors, AreAnswered}
-use Rattle.lsys_repair.proofs.Finishing.{answered_level}
-use Rattle.lsys_repair.proofs.Nexts.{last_there}
-use Rattle.lsys_repair.proofs.Lengths.{next_is, over_level}
+use Rattle.lsys_reads.specs.Lineages.{names}
+use Rattle.lsys_reads.specs.Meant.{meant_to, level_to}
+use Rattle.lsys_children.specs.Answers.{kept_successors, AreAnswered}
+use Rattle.lsys_children.proofs.Finishing.{answered_level}
+use Rattle.lsys_children.proofs.Nexts.{last_there}
+use Rattle.lsys_children.proofs.Lengths.{next_is, over_level}
 use Rattle.lsys_pass.specs.declared.sizes.Size.{Size}
 use Rattle.lsys_pass.specs.declared.state.PassState.TheVariants.{Level}
 use Rattle.lsys_pass.specs.Sizes.{symbols_at, total_of, HaveSizesTo, SizesAt}

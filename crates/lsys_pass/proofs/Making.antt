@@ -2,22 +2,22 @@
 use Rattle.std.proofs.Common.{◌≡◌, ◌+◌, ◌<◌, ◌≤◌, ◌^◌, ℕ, List, [], ◌∷◌, length, None, Ok, arith, sum_by}
 use Rattle.lsys_spec.specs.Systems.{System, WellSpelled}
 use Rattle.lsys_spec.specs.Meaning.{meaning_to}
-use Rattle.lsys_change.specs.Nodes.{Extends}
+use Rattle.lsys_laws.specs.Nodes.{Extends}
 use Rattle.lsys_walks.specs.Stores.{Store}
 use Rattle.lsys_match.specs.Kept.{Kept}
 use Rattle.lsys_forest.specs.Nodes.{Nodes}
 use Rattle.lsys_forest.specs.Rows.{level_nodes, level_spots}
-use Rattle.lsys_kept.specs.Lineages.{kins}
-use Rattle.lsys_kept.specs.Levels.{HaveLevels, answer_at}
-use Rattle.lsys_kept.specs.Meant.{meant_to}
-use Rattle.lsys_repair.specs.Nexts.{Successors, HasWanted, HaveWanted}
-use Rattle.lsys_repair.specs.Answers.{kept_successors, AreAnswered}
-use Rattle.lsys_repair.specs.Renewals.{AreRenewals, KeepsUpper, KeepsDeeper}
-use Rattle.lsys_repair.proofs.Finishing.{finished_meant, finished_levels, answers_stay, deeper_now}
-use Rattle.lsys_repair.proofs.Renewing.{keeps_upper}
-use Rattle.lsys_repair.proofs.Above.{upper_nodes, upper_spots}
-use Rattle.lsys_repair.proofs.Depths.{still}
-use Rattle.lsys_repair.proofs.Firsts.{first_meant, first_levels}
+use Rattle.lsys_reads.specs.Lineages.{kins}
+use Rattle.lsys_reads.specs.Levels.{HaveLevels, answer_at}
+use Rattle.lsys_reads.specs.Meant.{meant_to}
+use Rattle.lsys_children.specs.Nexts.{Successors, HasWanted, HaveWanted}
+use Rattle.lsys_children.specs.Answers.{kept_successors, AreAnswered}
+use Rattle.lsys_children.specs.Renewals.{AreRenewals, KeepsUpper, KeepsDeeper}
+use Rattle.lsys_children.proofs.Finishing.{finished_meant, finished_levels, answers_stay, deeper_now}
+use Rattle.lsys_children.proofs.Renewing.{keeps_upper}
+use Rattle.lsys_children.proofs.Above.{upper_nodes, upper_spots}
+use Rattle.lsys_children.proofs.Depths.{still}
+use Rattle.lsys_children.proofs.Firsts.{first_meant, first_levels}
 use Rattle.lsys_pass.specs.Stages.{HasTree}
 
 -- what lies deeper is as it was

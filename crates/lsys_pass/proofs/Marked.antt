@@ -1,9 +1,9 @@
 -- A pass whose seats were marked and cleared again, or of whose last level it was told whether it is open.
 use Rattle.std.proofs.Common.{◌≡◌, ◌+◌, ◌<◌, ◌≤◌, ℕ, zero, suc, Bool, false, List, [], ◌∷◌, length, take, drop, ◌-◌, refl, sym, ap, ◌∙◌, subst, inl, inr, arith}
 use Rattle.lsys_match.specs.Kept.{Kept}
-use Rattle.lsys_kept.specs.declared.seat.Seat.{Seat}
-use Rattle.lsys_kept.specs.Seats.{is_marked, SameSeats, KeepsSeats}
-use Rattle.lsys_candidates.specs.Repairs.{Repair, rest}
+use Rattle.lsys_reads.specs.declared.seat.Seat.{Seat}
+use Rattle.lsys_reads.specs.Seats.{is_marked, SameSeats, KeepsSeats}
+use Rattle.lsys_front.specs.Repairs.{Repair, rest}
 use Rattle.lsys_front.specs.Fronts.{Differences, IsLevelFront}
 use Rattle.lsys_front.specs.Turned.{AreTurnedBy}
 use Rattle.lsys_forest.specs.Groves.{Grove}
@@ -114,7 +114,7 @@ module _ (v : PassView) (seats : List Seat) (same : SameSeats v.seats seats) (ke
     seats = keeps;
   })
 
--- what is behind some of a list, as a slice of it
+-- what is after some of a list, as a slice of it
 take_all : (n : ℕ) (xs : List ℕ) → length xs ≤ n → take n xs ≡ xs
 take_all zero [] l = refl
 take_all (suc n) [] l = refl

@@ -21,9 +21,9 @@ use Rattle.lsys_match.specs.Derivations.{Rises, most_read}
 use Rattle.lsys_forest.specs.Groves.{Grove, now_of}
 use Rattle.lsys_forest.specs.Rows.{complete_levels, level_nodes, level_spots, place_of_node}
 use Rattle.lsys_forest.proofs.RowLemmas.{level_apart}
-use Rattle.lsys_kept.specs.Lineages.{names}
-use Rattle.lsys_kept.specs.Levels.{level_of, answer_at}
-use Rattle.lsys_kept.specs.Meant.{levels_meant, level_to}
+use Rattle.lsys_reads.specs.Lineages.{names}
+use Rattle.lsys_reads.specs.Levels.{level_of, answer_at}
+use Rattle.lsys_reads.specs.Meant.{levels_meant, level_to}
 use Rattle.lsys_pass.specs.declared.state.PassState.TheVariants.{Level}
 use Rattle.lsys_pass.specs.Steps.{StepParts, KeepsOutcome}
 use Rattle.lsys_pass.specs.Passes.{PassView, stage_of, now_in, IsPass}

@@ -8,12 +8,12 @@ use Rattle.lsys_spec.specs.Bodies.{Body, group}
 use Rattle.lsys_spec.specs.Levels.{ModuleValue, LevelSymbol, Module, lineage}
 use Rattle.lsys_spec.specs.Questions.{Question, questions, question_at, is_needed}
 use Rattle.lsys_spec.proofs.Needs.{Derived, derived, IsAsked, all_asked, IsFound, found_asked}
-use Rattle.lsys_change.specs.Nodes.{Kin}
-use Rattle.lsys_change.specs.Passes.{module_question}
-use Rattle.lsys_change.proofs.Asked.{IsOld, not_needed}
-use Rattle.lsys_change.proofs.Faultless.{level_below}
-use Rattle.lsys_change.proofs.UpTo.{derived_to, level_count}
-use Rattle.lsys_change.proofs.Lineages.{apart, stays}
+use Rattle.lsys_laws.specs.Nodes.{Kin}
+use Rattle.lsys_laws.specs.Passes.{module_question}
+use Rattle.lsys_laws.proofs.Asked.{IsOld, not_needed}
+use Rattle.lsys_laws.proofs.Faultless.{level_below}
+use Rattle.lsys_laws.proofs.UpTo.{derived_to, level_count}
+use Rattle.lsys_laws.proofs.KeptLineages.{apart, stays}
 use Rattle.lsys_level.specs.Spots.{Seen, Spotted, with_lineage, named, level_by}
 use Rattle.lsys_level.specs.Spots as S
 use Rattle.lsys_level.specs.Tags.{StandsThere, NamesTell}
@@ -27,9 +27,9 @@ use Rattle.lsys_forest.specs.Nodes.{Node, Nodes}
 use Rattle.lsys_forest.specs.Rows.{spot_in, level_nodes, level_spots}
 use Rattle.lsys_forest.proofs.RowLemmas.{level_depth}
 use Rattle.lsys_forest.proofs.WalkLemmas.{get_In}
-use Rattle.lsys_kept.specs.Lineages.{kin_of, kins, names}
-use Rattle.lsys_kept.specs.Levels.{IsKeptFor, IsRight, IsAnsweredRight, level_of, answer_at}
-use Rattle.lsys_kept.specs.Meant.{levels_meant, meant_to, level_to}
+use Rattle.lsys_reads.specs.Lineages.{kin_of, kins, names}
+use Rattle.lsys_reads.specs.Levels.{IsKeptFor, IsRight, IsAnsweredRight, level_of, answer_at}
+use Rattle.lsys_reads.specs.Meant.{levels_meant, meant_to, level_to}
 use Rattle.lsys_pass.specs.Stages.{Stage, was, HasTree}
 use Rattle.lsys_pass.proofs.Before as before
 use Rattle.lsys_pass.proofs.Before.{WasAnswered, was_answered, IsPlaced, placed, answer_lives, spot_at, found_same}

@@ -11,18 +11,18 @@ use Rattle.lsys_forest.specs.Rows.{kids_in, level_nodes}
 use Rattle.lsys_forest.proofs.RowLemmas.{level_depth, level_apart}
 use Rattle.lsys_forest.proofs.DepthLemmas.{fits}
 use Rattle.lsys_forest.proofs.StockLemmas.{stored_of}
-use Rattle.lsys_change.specs.Nodes.{Kin}
-use Rattle.lsys_kept.specs.Lineages.{kin_of}
+use Rattle.lsys_laws.specs.Nodes.{Kin}
+use Rattle.lsys_reads.specs.Lineages.{kin_of}
 use Rattle.lsys_reads.specs.Rows.{has}
-use Rattle.lsys_repair.specs.Nexts.{HasWanted, AreClosed}
-use Rattle.lsys_repair.specs.Answers.{kept_successors}
-use Rattle.lsys_repair.proofs.Lengths.{below_count, other_sums}
-use Rattle.lsys_repair.specs.declared.parent.Parent.{Parent}
-use Rattle.lsys_repair.specs.Parents.{nodes_in, AreToldBy, cut_parents, uncut}
-use Rattle.lsys_repair.specs.Needs.{had_by_all, wanted_of_all}
-use Rattle.lsys_repair.proofs.Walked.{whole_told}
-use Rattle.lsys_candidates.specs.Repairs.{Repair}
-use Rattle.lsys_candidates.proofs.Spots.{sound_old}
+use Rattle.lsys_children.specs.Nexts.{HasWanted, AreClosed}
+use Rattle.lsys_children.specs.Answers.{kept_successors}
+use Rattle.lsys_children.proofs.Lengths.{below_count, other_sums}
+use Rattle.lsys_children.specs.declared.parent.Parent.{Parent}
+use Rattle.lsys_children.specs.Parents.{nodes_in, AreToldBy, cut_parents, uncut}
+use Rattle.lsys_children.specs.Needs.{had_by_all, wanted_of_all}
+use Rattle.lsys_children.proofs.Walked.{whole_told}
+use Rattle.lsys_front.specs.Repairs.{Repair}
+use Rattle.lsys_front.proofs.Spots.{sound_old}
 use Rattle.lsys_front.proofs.NextSymbols.{left, by_parents, by_walk, had_sum}
 use Rattle.lsys_pass.specs.Sizes.{symbols_at}
 use Rattle.lsys_pass.specs.Passes.{PassView, stage_of, repair_of}

@@ -4,18 +4,18 @@ use Rattle.std.specs.Prelude.{option_map}
 use Rattle.std.proofs.lemmas.List.Sums.{sum_by-append, sum_by-cons}
 use Rattle.std.proofs.lemmas.Option.{same_Some}
 use Rattle.lsys_spec.specs.Rows.{In, AreApart}
-use Rattle.lsys_change.specs.Nodes.{Kin}
+use Rattle.lsys_laws.specs.Nodes.{Kin}
 use Rattle.lsys_match.specs.Kept.{Kept}
 use Rattle.lsys_forest.specs.Nodes.{Node, Nodes}
 use Rattle.lsys_forest.specs.Groves.{IsRooted, changes_in}
 use Rattle.lsys_forest.specs.Rows.{kids_in, level_nodes}
 use Rattle.lsys_forest.proofs.RowLemmas.{In_append, In_left, In_right, In_split, apart_append, level_apart, level_depth}
 use Rattle.lsys_forest.proofs.SoundLemmas.{AreSound-then}
-use Rattle.lsys_kept.specs.Lineages.{kin_of}
-use Rattle.lsys_repair.specs.Nexts.{HasWanted, wanted_in, wanted_count}
-use Rattle.lsys_repair.specs.Answers.{kept_successors}
-use Rattle.lsys_repair.proofs.Lengths.{kids_count, below_count, other_sums}
-use Rattle.lsys_repair.proofs.Depths.{on_level}
+use Rattle.lsys_reads.specs.Lineages.{kin_of}
+use Rattle.lsys_children.specs.Nexts.{HasWanted, wanted_in, wanted_count}
+use Rattle.lsys_children.specs.Answers.{kept_successors}
+use Rattle.lsys_children.proofs.Lengths.{kids_count, below_count, other_sums}
+use Rattle.lsys_children.proofs.Depths.{on_level}
 use Rattle.lsys_pass.specs.declared.state.PassState.TheVariants.{Level}
 use Rattle.lsys_pass.specs.Sizes.{symbols_at}
 use Rattle.lsys_pass.specs.Passes.{PassView, stage_of, now_in, rest_in, IsPass}

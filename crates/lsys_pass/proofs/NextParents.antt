@@ -6,7 +6,7 @@ use Rattle.std.proofs.lemmas.Bool.{cases_eq}
 use Rattle.std.proofs.lemmas.Option.{none-some, same_Some}
 use Rattle.lsys_spec.specs.Rows.{In, AreApart}
 use Rattle.lsys_spec.specs.Draws.{number_base}
-use Rattle.lsys_change.specs.Children.{is_open}
+use Rattle.lsys_laws.specs.Children.{is_open}
 use Rattle.lsys_match.specs.Kept.{Kept}
 use Rattle.lsys_forest.specs.Nodes.{Node, Nodes}
 use Rattle.lsys_forest.specs.Groves.{IsRooted, IsLive, changes_in}
@@ -14,19 +14,19 @@ use Rattle.lsys_forest.specs.Rows.{complete_levels}
 use Rattle.lsys_forest.proofs.RowLemmas.{level_depth, level_apart}
 use Rattle.lsys_forest.proofs.DepthLemmas.{fits}
 use Rattle.lsys_forest.proofs.StockLemmas.{stored_of}
-use Rattle.lsys_kept.specs.Levels.{answer_at, AnsweredAt}
-use Rattle.lsys_kept.specs.Seats.{HasSeat}
-use Rattle.lsys_kept.specs.Standings.{seen_at}
-use Rattle.lsys_repair.specs.Nexts.{Successors, AreClosed, HasWanted, node_kind, wanted_in, wanted_behind}
-use Rattle.lsys_repair.specs.Renewals.{KeepsDeeper}
-use Rattle.lsys_repair.specs.Answers.{kept_successors}
-use Rattle.lsys_repair.proofs.Walks.{same_yes, same_not, none_reached}
-use Rattle.lsys_change.specs.Kinds.{reached}
-use Rattle.lsys_repair.specs.declared.parent.Parent.{Parent}
-use Rattle.lsys_repair.specs.Parents.{AreParents, AreToldBy, cut_parents, uncut}
-use Rattle.lsys_repair.proofs.Walked.{walked_nodes, walked_told, whole_nodes}
-use Rattle.lsys_candidates.specs.Repairs.{Repair, SteppingSpots, were}
-use Rattle.lsys_candidates.proofs.Spots.{is_in}
+use Rattle.lsys_reads.specs.Levels.{answer_at, AnsweredAt}
+use Rattle.lsys_reads.specs.Seats.{HasSeat}
+use Rattle.lsys_reads.specs.Standings.{seen_at}
+use Rattle.lsys_children.specs.Nexts.{Successors, AreClosed, HasWanted, node_kind, wanted_in, wanted_behind}
+use Rattle.lsys_children.specs.Renewals.{KeepsDeeper}
+use Rattle.lsys_children.specs.Answers.{kept_successors}
+use Rattle.lsys_children.proofs.Walks.{same_yes, same_not, none_reached}
+use Rattle.lsys_laws.specs.Kinds.{reached}
+use Rattle.lsys_children.specs.declared.parent.Parent.{Parent}
+use Rattle.lsys_children.specs.Parents.{AreParents, AreToldBy, cut_parents, uncut}
+use Rattle.lsys_children.proofs.Walked.{walked_nodes, walked_told, whole_nodes}
+use Rattle.lsys_front.specs.Repairs.{Repair, SteppingSpots, were}
+use Rattle.lsys_front.proofs.Spots.{is_in}
 use Rattle.lsys_front.specs.Fronts.{MayHaveOthers}
 use Rattle.lsys_front.proofs.Rooms.{complete_now}
 use Rattle.lsys_front.proofs.LevelParents.{are_parents, had_still, all_closed}
@@ -40,7 +40,7 @@ use Rattle.lsys_pass.proofs.Finishing.{all_answered}
 use Rattle.lsys_pass.proofs.Repairing.{stepping, keeps_deeper, answers_kept}
 use Rattle.lsys_pass.proofs.SeenCases.{seen_cases}
 
--- 1. what a walk finds to be wanted, where no cut reaches what stands behind
+-- 1. what a walk finds to be wanted, where no cut reaches what stands after
 
 module _ (m : Nodes Kept) (by : Successors) (j : ℕ) (js : List ℕ) (closed : is_open (by j) ≡ false) (k : ℕ) where
   abbrev behind : ℕ → List (S.Symbol ℤ)
@@ -204,7 +204,7 @@ module _ (v : PassView) (t : ℕ) (a : WasAsked v t) where
         others = λ k i. inl (subst (In k) (sym nodes) i);
       }
 
-  -- those that may have other children, where no cut reaches what stands behind
+  -- those that may have other children, where no cut reaches what stands after
   module _ (ks : List ℕ) (once : AreApart ks) (are_may : (k : ℕ) → In k ks → MayHaveOthers v.front (drop v.first_renewed v.renewed) k) (may_are : (k : ℕ) → MayHaveOthers v.front (drop v.first_renewed v.renewed) k → In k ks)
       (below : t < v.system.depth) (seed : v.next.seed ≡ v.system.seed) (numbering : v.next.numbering ≡ v.system.numbering) (was_closed : opens_at v.sizes t ≡ false)
       (none : (k : ℕ) → In k ks → is_open (kept_successors (P.now_in v) k) ≡ false) where

@@ -13,7 +13,7 @@ before_next (x ∷ xs) zero seen h = ap (λ s. is_one s + 0) (same_Some x.seen s
 before_next (x ∷ xs) (suc p) seen h = let e = before_next xs p seen h in omega (arith, e)
 
 module _ {Spot : Type 0} (level_of place_of : Spot → ℕ) (xs : List Spotted) (t place : ℕ) where
-  -- So much was counted behind the spot that comes next, and up to the place; behind the left end all was.
+  -- So much was counted after the spot that comes next, and up to the place; after the left end all was.
   abbrev pub Counting : Option Spot → ℕ → Type 0
   Counting None number = number ≡ modules_before xs place + 1
   Counting (Some s) number =

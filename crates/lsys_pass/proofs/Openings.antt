@@ -18,17 +18,17 @@ use Rattle.lsys_walks.specs.declared.entry.Entry.{Entry}
 use Rattle.lsys_walks.specs.Stores.{Store}
 use Rattle.lsys_match.specs.Kept.{Kept}
 use Rattle.lsys_reads.specs.Relations.{Relations, is_settled}
-use Rattle.lsys_change.specs.Nodes.{Kin}
+use Rattle.lsys_laws.specs.Nodes.{Kin}
 use Rattle.lsys_forest.specs.Nodes.{Node, Nodes, root_node}
 use Rattle.lsys_forest.specs.Answers.{AnswerKeeper, AtNode, AtChange, answer_of, answers}
 use Rattle.lsys_forest.specs.Groves.{AreKids, HasFew, IsRooted}
 use Rattle.lsys_forest.specs.Rows.{kids_in, kids_below, spot_in, level_nodes, level_spots}
 use Rattle.lsys_forest.proofs.SoundLemmas.{AreSound-rest}
-use Rattle.lsys_kept.specs.declared.seat.Seat.{Seat}
-use Rattle.lsys_kept.specs.Names.{RunName, InTraces, InValues, Entries, Values, run_in}
-use Rattle.lsys_kept.specs.Lineages.{kin_of, kins, names}
-use Rattle.lsys_kept.specs.Levels.{answer_at}
-use Rattle.lsys_kept.specs.Meant.{levels_meant}
+use Rattle.lsys_reads.specs.declared.seat.Seat.{Seat}
+use Rattle.lsys_reads.specs.Names.{RunName, InTraces, InValues, Entries, Values, run_in}
+use Rattle.lsys_reads.specs.Lineages.{kin_of, kins, names}
+use Rattle.lsys_reads.specs.Levels.{answer_at}
+use Rattle.lsys_reads.specs.Meant.{levels_meant}
 use Rattle.lsys_pass.specs.Rests.{IsResting}
 use Rattle.lsys_pass.specs.Stages.{IsStored}
 

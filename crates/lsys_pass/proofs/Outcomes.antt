@@ -13,7 +13,7 @@ use Rattle.lsys_spec.specs.Meaning.{successor}
 use Rattle.lsys_spec.specs.Questions.{questions, is_needed}
 use Rattle.lsys_rewrite.specs.Faults.{fault_of}
 use Rattle.lsys_rewrite.specs.declared.refusal.FaultKind.{FaultKind}
-use Rattle.lsys_change.specs.Passes.{module_question}
+use Rattle.lsys_laws.specs.Passes.{module_question}
 use Rattle.lsys_level.specs.Spots.{Spotted, level_by}
 use Rattle.lsys_level.specs.Spots as S
 use Rattle.lsys_walks.specs.Stores.{Store}
@@ -33,10 +33,10 @@ use Rattle.lsys_forest.specs.Changes.{Change, undone}
 use Rattle.lsys_forest.specs.Answers.{answer_of}
 use Rattle.lsys_forest.specs.Rows.{level_nodes, level_spots}
 use Rattle.lsys_forest.proofs.RowLemmas.{In_append, In_left, In_right, get_split, same_sides, apart_append, level_apart}
-use Rattle.lsys_kept.specs.Lineages.{names}
-use Rattle.lsys_kept.specs.Levels as kept
-use Rattle.lsys_kept.specs.Levels.{IsRight, IsKeptFor, AnsweredIn, level_of, answer_at, tags_read, HasRead}
-use Rattle.lsys_kept.specs.Meant.{levels_meant, level_to}
+use Rattle.lsys_reads.specs.Lineages.{names}
+use Rattle.lsys_reads.specs.Levels as kept
+use Rattle.lsys_reads.specs.Levels.{IsRight, IsKeptFor, AnsweredIn, level_of, answer_at, tags_read, HasRead}
+use Rattle.lsys_reads.specs.Meant.{levels_meant, level_to}
 use Rattle.lsys_pass.specs.declared.fault.Faulted.{Faulted}
 use Rattle.lsys_pass.specs.Read.{pairs_of}
 use Rattle.lsys_pass.specs.Stages.{Stage, was, fault_in, IsNoted, AreNoted, HasFault, OutcomeBy, IsNeededAt, IsAtLevel}

@@ -8,14 +8,14 @@ use Rattle.lsys_match.specs.Kept.{Kept}
 use Rattle.lsys_forest.specs.Groves.{Grove, AreSound, IsLive, IsRooted, now_of, changes_in}
 use Rattle.lsys_forest.specs.Rows.{complete_levels}
 use Rattle.lsys_forest.proofs.WalkLemmas.{get_In}
-use Rattle.lsys_kept.specs.Meant.{IsCandidate}
-use Rattle.lsys_kept.specs.declared.seat.Seat.{Seat}
-use Rattle.lsys_kept.specs.Seats.{HasSeat, SameSeats, KeepsSeats}
-use Rattle.lsys_kept.proofs.LevelLemmas.{place_in}
-use Rattle.lsys_candidates.specs.Repairs.{Repair, are}
-use Rattle.lsys_candidates.specs.Candidates.{AsksOn, AsksNow, IsCandidateNode}
-use Rattle.lsys_candidates.specs.Asks.{AreInOrder, AreSome}
-use Rattle.lsys_candidates.proofs.Nodes.{candidates_are}
+use Rattle.lsys_reads.specs.Meant.{IsCandidate}
+use Rattle.lsys_reads.specs.declared.seat.Seat.{Seat}
+use Rattle.lsys_reads.specs.Seats.{HasSeat, SameSeats, KeepsSeats}
+use Rattle.lsys_reads.proofs.LevelLemmas.{place_in}
+use Rattle.lsys_front.specs.Repairs.{Repair, are}
+use Rattle.lsys_front.specs.Candidates.{AsksOn, AsksNow, IsCandidateNode}
+use Rattle.lsys_front.specs.Questioned.{AreInOrder, AreSome}
+use Rattle.lsys_front.proofs.Nodes.{candidates_are}
 use Rattle.lsys_front.specs.Fronts.{Differences}
 use Rattle.lsys_front.specs.Losses.{LosesOnly}
 use Rattle.lsys_front.specs.Asks.{Loses, MayBeAsked, StandTogether}

@@ -62,7 +62,7 @@ halved part s place (InHalves count front behind) h is =
 pub left_is : (part : List Slot) (s : Slot) → Halved part s → those_left part ≡ those_left (take (length part / 2) part) ++ cons_option s.node (those_left (drop (length part / 2 + 1) part))
 left_is part s h = ap those_left h.whole ∙ those_around (take (length part / 2) part) s (drop (length part / 2 + 1) part)
 
--- what stands behind the middle
+-- what stands after the middle
 abbrev pub behind_in : List Slot → List Slot
 behind_in part = take (length part - (length part / 2 + 1)) (drop (length part / 2 + 1) part)
 
@@ -125,7 +125,7 @@ pub record IsTaken (old new : List Slot) (place : ℕ) : Type 0 where
   pub counted : AreCounted new
   pub left : those_left new ≡ remove (those_left old) place
 
--- slots before a middle one and behind it
+-- slots before a middle one and after it
 joined : (n : ℕ) (before : List Slot) (s : Slot) (behind : List Slot) → n / 2 < n → length before ≡ n / 2 → length behind ≡ n - (n / 2 + 1) → s.gone + length (those_left before) ≡ n / 2
     → AreCounted before → AreCounted behind → AreCounted (before ++ s ∷ behind)
 joined n before s behind within one two count front back =
@@ -207,7 +207,7 @@ taken_here part s t x place h is at t_is =
           ∙ sym off ∙ ap (λ (o : Option ℕ). remove (before ++ cons_option o rest) place) (sym is) ∙ ap (λ (xs : List ℕ). remove xs place) (sym (left_is part s h));
     }
 
--- behind the middle
+-- after the middle
 abbrev pub with_behind : List Slot → List Slot → List Slot
 with_behind part fresh = put_mid (length part / 2 + 1) (length part - (length part / 2 + 1)) part fresh
 

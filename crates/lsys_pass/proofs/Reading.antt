@@ -14,7 +14,7 @@ use Rattle.lsys_region.specs.Pool.{list_of}
 use Rattle.lsys_walks.specs.Stores.{Store}
 use Rattle.lsys_match.specs.Kept.{Kept}
 use Rattle.lsys_match.specs.Stored.{listed, entries_in, values_in}
-use Rattle.lsys_kept.specs.Levels.{tags_named, tags_read}
+use Rattle.lsys_reads.specs.Levels.{tags_named, tags_read}
 use Rattle.lsys_pass.specs.Read.{entry_tags, entries_tags, pairs_of, ComesBehind}
 
 -- 1. entries, one by one

@@ -10,7 +10,7 @@ use Rattle.lsys_rewrite.specs.Faults.{fault_of}
 use Rattle.lsys_rewrite.specs.declared.refusal.FaultKind.{FaultKind}
 use Rattle.lsys_rewrite.specs.declared.refusal.DeriveRefusal.{DeriveRefusal}
 use Rattle.lsys_rewrite.specs.declared.refusal.DeriveRefusal.TheVariants.{Fault, Limit, Memory}
-use Rattle.lsys_change.proofs.UpTo.{level_count}
+use Rattle.lsys_laws.proofs.UpTo.{level_count}
 use Rattle.lsys_level.specs.Spots.{Seen, Spotted, spots_at, level_by, named}
 use Rattle.lsys_level.specs.Spots as S
 use Rattle.lsys_forest.specs.Nodes.{Nodes}
@@ -21,14 +21,14 @@ use Rattle.lsys_forest.proofs.DepthLemmas.{fits}
 use Rattle.lsys_forest.proofs.StockLemmas.{stored_of}
 use Rattle.lsys_forest.proofs.ViewLemmas.{are_told, told_is}
 use Rattle.lsys_forest.proofs.WalkLemmas.{get_In}
-use Rattle.lsys_brood.specs.Children.{bracket_kind}
-use Rattle.lsys_kept.specs.Levels.{AnsweredAt, level_of}
-use Rattle.lsys_kept.specs.Meant.{meant_to, level_to}
-use Rattle.lsys_repair.specs.Nexts.{node_symbol, count_kind, module_nodes, HasFirstFault}
-use Rattle.lsys_repair.specs.Answers.{kept_successors}
-use Rattle.lsys_repair.proofs.Nexts.{level_symbols, last_there}
-use Rattle.lsys_repair.proofs.Replaced.{replaced}
-use Rattle.lsys_repair.proofs.Refused.{fault_level}
+use Rattle.lsys_children.specs.Children.{bracket_kind}
+use Rattle.lsys_reads.specs.Levels.{AnsweredAt, level_of}
+use Rattle.lsys_reads.specs.Meant.{meant_to, level_to}
+use Rattle.lsys_children.specs.Nexts.{node_symbol, count_kind, module_nodes, HasFirstFault}
+use Rattle.lsys_children.specs.Answers.{kept_successors}
+use Rattle.lsys_children.proofs.Nexts.{level_symbols, last_there}
+use Rattle.lsys_children.proofs.Replaced.{replaced}
+use Rattle.lsys_children.proofs.Refused.{fault_level}
 use Rattle.lsys_pass.specs.declared.fault.Faulted.{Faulted}
 use Rattle.lsys_pass.specs.declared.state.PassState.TheVariants.{Level}
 use Rattle.lsys_pass.specs.Leftmost.{AreOnLevel, IsFirstAt, IsLeftmostFault, is_one, modules_before}

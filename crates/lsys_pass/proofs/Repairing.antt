@@ -8,11 +8,11 @@ use Rattle.lsys_reads.specs.Relations.{Relations}
 use Rattle.lsys_forest.specs.Nodes.{Node, Nodes}
 use Rattle.lsys_forest.specs.Groves.{AreSound, changes_in}
 use Rattle.lsys_forest.specs.Rows.{level_nodes}
-use Rattle.lsys_kept.specs.Levels.{answer_at}
-use Rattle.lsys_kept.specs.declared.seat.Seat.{Seat}
-use Rattle.lsys_candidates.specs.Repairs.{Repair, SteppingSpots, rest, root}
-use Rattle.lsys_candidates.specs.Repairs as R
-use Rattle.lsys_repair.specs.Renewals.{KeepsDeeper}
+use Rattle.lsys_reads.specs.Levels.{answer_at}
+use Rattle.lsys_reads.specs.declared.seat.Seat.{Seat}
+use Rattle.lsys_front.specs.Repairs.{Repair, SteppingSpots, rest, root}
+use Rattle.lsys_front.specs.Repairs as R
+use Rattle.lsys_children.specs.Renewals.{KeepsDeeper}
 use Rattle.lsys_pass.specs.declared.state.PassState.TheVariants.{Level}
 use Rattle.lsys_pass.specs.Rests.{IsResting}
 use Rattle.lsys_pass.specs.Stages.{Stage, was, IsStored, HasTree, HasLists, IsAtLevel}

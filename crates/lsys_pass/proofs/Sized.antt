@@ -2,14 +2,14 @@
 use Rattle.std.proofs.Common.{◌≡◌, ◌+◌, ◌<◌, ◌≤◌, ◌-◌, ℕ, zero, suc, false, List, [], ◌∷◌, length, Option, None, refl, sym, ap, ◌∙◌, subst, inl, inr, arith}
 use Rattle.std.proofs.lemmas.Bool.{cases_lt}
 use Rattle.lsys_spec.specs.Rows.{In}
-use Rattle.lsys_change.specs.Children.{is_open}
+use Rattle.lsys_laws.specs.Children.{is_open}
 use Rattle.lsys_level.specs.Spots.{Seen, Push, Pop, Module}
 use Rattle.lsys_match.specs.Kept.{Kept}
 use Rattle.lsys_forest.specs.Nodes.{Nodes}
 use Rattle.lsys_forest.specs.Rows.{spot_in, level_nodes}
-use Rattle.lsys_kept.specs.Levels.{answer_at}
-use Rattle.lsys_repair.specs.Nexts.{Successors, AreClosed}
-use Rattle.lsys_repair.specs.Answers.{kept_successor, kept_successors}
+use Rattle.lsys_reads.specs.Levels.{answer_at}
+use Rattle.lsys_children.specs.Nexts.{Successors, AreClosed}
+use Rattle.lsys_children.specs.Answers.{kept_successor, kept_successors}
 use Rattle.lsys_pass.specs.declared.sizes.Size.{Size}
 use Rattle.lsys_pass.specs.Sizes.{symbols_at, opens_at, HaveSizes, HaveSizesTo}
 use Rattle.lsys_pass.proofs.Before.{no_more}
@@ -65,7 +65,7 @@ unanswered_closed m [] h = tt
 unanswered_closed m (k ∷ ks) h =
     (ap (λ (o : Option Kept). is_open (kept_successor (spot_in k (m k)).seen o)) (h k (inl refl)) ∙ itself_closed (spot_in k (m k)).seen, unanswered_closed m ks (λ j i. h j (inr i)))
 
--- all levels, where behind level t there is none and its nodes have no answers
+-- all levels, where after level t there is none and its nodes have no answers
 pub all_sized : (m : Nodes Kept) (root : ℕ) (sizes : List Size) (t : ℕ) → HaveSizesTo m root sizes t → level_nodes m root (t + 1) ≡ [] → ((k : ℕ) → In k (level_nodes m root t) → answer_at m k ≡ None)
     → HaveSizes m root sizes
 all_sized m root sizes t h ends last = record { symbols = symbols; closed = closed }

@@ -11,13 +11,13 @@ use Rattle.lsys_spec.specs.Levels.{ModuleValue, LevelSymbol, Push, Pop, Module}
 use Rattle.lsys_spec.specs.Meaning.{asked}
 use Rattle.lsys_spec.specs.Questions.{Question, question, where_any, questions_from, questions_at, questions_below}
 use Rattle.lsys_reads.specs.Rows.{has}
-use Rattle.lsys_change.specs.Passes.{is_candidate_at, module_question}
-use Rattle.lsys_change.specs.LevelCounts.{read_by}
+use Rattle.lsys_laws.specs.Passes.{is_candidate_at, module_question}
+use Rattle.lsys_laws.specs.LevelCounts.{read_by}
 use Rattle.lsys_match.specs.Derivations.{most_read}
 use Rattle.lsys_forest.proofs.WalkLemmas.{get_In}
 use Rattle.lsys_pass.specs.Spent.{read_at, read_without}
 
--- 1. the first symbol, and those behind it
+-- 1. the first symbol, and those after it
 
 times_suc : (c n : ℕ) → c * suc n ≡ c * n + c
 times_suc c n = grind arith

@@ -20,7 +20,7 @@ use Rattle.lsys_forest.specs.Changes.{Change, undone}
 use Rattle.lsys_forest.specs.Groves.{Grove, IsRooted, now_of, rest_of, changes_in, live_nodes}
 use Rattle.lsys_forest.proofs.SoundLemmas.{AreSound-now}
 use Rattle.lsys_forest.proofs.StockLemmas.{put_other}
-use Rattle.lsys_kept.specs.Levels.{level_of, answer_at}
+use Rattle.lsys_reads.specs.Levels.{level_of, answer_at}
 use Rattle.lsys_pass.specs.declared.fault.Faulted.{Faulted}
 use Rattle.lsys_pass.specs.declared.state.PassState.TheVariants.{Level}
 use Rattle.lsys_pass.specs.declared.work.Work.{Work}
@@ -35,8 +35,8 @@ use Rattle.lsys_pass.proofs.Stepping.{stepped, on_level, other_level}
 use Rattle.lsys_pass.proofs.Fronting.{KeepsLevel, front_stays, AreByLevel, one_here, by_same}
 use Rattle.lsys_pass.proofs.Sized.{made_stays}
 use Rattle.lsys_pass.specs.Sizes.{HaveSizes, HaveSizesTo, SizesAt}
-use Rattle.lsys_kept.proofs.LevelLemmas.{place_in}
-use Rattle.lsys_kept.specs.Standings.{seen_at}
+use Rattle.lsys_reads.proofs.LevelLemmas.{place_in}
+use Rattle.lsys_reads.specs.Standings.{seen_at}
 use Rattle.lsys_front.specs.Fronts.{IsLevelFront}
 use Rattle.lsys_forest.specs.Rows.{level_nodes, level_spots}
 use Rattle.lsys_pass.proofs.Asking.{IsSameForest, IsAsked, asked, at, made_now, same_sound, same_nodes, same_spots, sound_now}

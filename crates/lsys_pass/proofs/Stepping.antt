@@ -15,7 +15,7 @@ use Rattle.lsys_match.specs.Kept.{Kept}
 use Rattle.lsys_match.specs.KeptAnswers.{StaysMade}
 use Rattle.lsys_match.specs.Asks.{IsMade}
 use Rattle.lsys_reads.specs.Relations.{Relations, is_pending, SettledStay}
-use Rattle.lsys_change.specs.Nodes.{Kins, AreOnce, Extends}
+use Rattle.lsys_laws.specs.Nodes.{Kins, AreOnce, Extends}
 use Rattle.lsys_forest.specs.Nodes.{Node, Nodes, with_node, with_answer}
 use Rattle.lsys_forest.specs.Changes.{Change, undone}
 use Rattle.lsys_forest.specs.Answers.{answer_of}
@@ -24,11 +24,11 @@ use Rattle.lsys_forest.specs.Rows.{level_nodes, level_spots}
 use Rattle.lsys_forest.proofs.RowLemmas.{In_append, In_left, In_right, apart_parts, apart_append, level_depth}
 use Rattle.lsys_forest.proofs.StockLemmas.{put_other}
 use Rattle.lsys_forest.proofs.WalkLemmas.{get_In}
-use Rattle.lsys_kept.specs.Lineages.{kins}
-use Rattle.lsys_kept.specs.Levels.{AnsweredIn, AnsweredAt, level_of, answer_at, HasRead}
-use Rattle.lsys_kept.specs.Meant.{level_to, IsNeeded}
-use Rattle.lsys_candidates.specs.Asks.{AreSome}
-use Rattle.lsys_kept.specs.Neighbours.{neighbours_on}
+use Rattle.lsys_reads.specs.Lineages.{kins}
+use Rattle.lsys_reads.specs.Levels.{AnsweredIn, AnsweredAt, level_of, answer_at, HasRead}
+use Rattle.lsys_reads.specs.Meant.{level_to, IsNeeded}
+use Rattle.lsys_front.specs.Questioned.{AreSome}
+use Rattle.lsys_reads.specs.Neighbours.{neighbours_on}
 use Rattle.lsys_pass.specs.declared.fault.Faulted.{Faulted}
 use Rattle.lsys_pass.specs.Rests.{AreCountedLow, IsResting}
 use Rattle.lsys_pass.specs.Stages.{Stage, was, Rests, fault_in, AreNoted, HasFault, OutcomeBy, IsNodeOutcome, IsPending, IsSettled, IsNeededAt, HasTree, HasAnswers, HasLists, HasNews, HasSeats, IsAtLevel}

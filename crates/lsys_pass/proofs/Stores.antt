@@ -15,8 +15,8 @@ use Rattle.lsys_match.specs.Recalled.{IsAnswerThere}
 use Rattle.lsys_reads.specs.Relations.{Relations, SettledStay}
 use Rattle.lsys_forest.specs.Nodes.{Nodes}
 use Rattle.lsys_forest.specs.Rows.{level_spots}
-use Rattle.lsys_kept.specs.declared.seat.Seat.{Seat}
-use Rattle.lsys_kept.specs.Levels.{IsRight, IsKeptFor, IsAnsweredRight, AnsweredIn, answer_at, tags_named, tags_read, HasRead}
+use Rattle.lsys_reads.specs.declared.seat.Seat.{Seat}
+use Rattle.lsys_reads.specs.Levels.{IsRight, IsKeptFor, IsAnsweredRight, AnsweredIn, answer_at, tags_named, tags_read, HasRead}
 use Rattle.lsys_pass.specs.Rests.{IsResting}
 
 -- each answer that nodes keep was made with the store

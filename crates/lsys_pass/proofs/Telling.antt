@@ -8,16 +8,16 @@ use Rattle.lsys_spec.specs.Values.{◌and_then◌}
 use Rattle.lsys_spec.specs.Choice as choice
 use Rattle.lsys_spec.specs.Choice.{Arithmetic}
 use Rattle.lsys_spec.specs.Meaning.{LevelRefusal, FaultAt, OverLimit, first_level, next_level, last_level, within_limit, meaning_to}
-use Rattle.lsys_change.proofs.UpTo.{level_count}
+use Rattle.lsys_laws.proofs.UpTo.{level_count}
 use Rattle.lsys_rewrite.specs.Faults.{fault_of}
 use Rattle.lsys_rewrite.specs.declared.refusal.FaultKind.{FaultKind}
 use Rattle.lsys_rewrite.specs.declared.refusal.FaultKind.TheVariants.{Overflow, DivideByZero, NegativePower, NegativeWeight, WeightTotal, TooFar}
 use Rattle.lsys_rewrite.specs.declared.refusal.DeriveRefusal.{DeriveRefusal}
 use Rattle.lsys_rewrite.specs.declared.refusal.DeriveRefusal.TheVariants.{Fault, Limit, Memory}
 use Rattle.lsys_match.specs.Derivations.{IsLevelRefusal}
-use Rattle.lsys_kept.specs.Meant.{meant_to, level_to}
-use Rattle.lsys_repair.proofs.Nexts.{last_there}
-use Rattle.lsys_repair.proofs.Refused.{stays, step_to, over_first}
+use Rattle.lsys_reads.specs.Meant.{meant_to, level_to}
+use Rattle.lsys_children.proofs.Nexts.{last_there}
+use Rattle.lsys_children.proofs.Refused.{stays, step_to, over_first}
 use Rattle.lsys_pass.specs.Refusals.{RefusesFirst, RefusesNext, IsFirstRefusal, IsFaultOn, IsLimitRefusal}
 
 -- 1. a fault tells its kind
@@ -94,7 +94,7 @@ module _ (s : System) (limit t : ℕ) (spelled : WellSpelled s) (is : meaning_to
   TellsNext (Err (Limit u)) = meaning_to s limit (t + 1) ≡ Err (OverLimit u)
   TellsNext (Err Memory) = (y : List LevelSymbol) × (next_level s t (level_to s limit t) ≡ Ok y)
 
-  -- a fault of the level is one of the step behind it
+  -- a fault of the level is one of the step after it
   pub faulty : (e : LevelRefusal) → next_level s t (level_to s limit t) ≡ Err e → meaning_to s limit (t + 1) ≡ Err e
   faulty e h =
       let last = last_there (meant_to s limit t) t (level_count s limit t (meant_to s limit t) spelled is) in

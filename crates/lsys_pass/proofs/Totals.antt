@@ -13,8 +13,8 @@ use Rattle.lsys_spec.specs.Levels.{ModuleValue, LevelSymbol, Push, Pop, Module}
 use Rattle.lsys_spec.specs.Meaning.{meaning}
 use Rattle.lsys_spec.specs.Questions.{Question, questions, is_needed, need}
 use Rattle.lsys_laws.specs.KeptQuestions.{where_grouped, question_here}
-use Rattle.lsys_change.specs.Passes.{module_question}
-use Rattle.lsys_change.proofs.UpTo.{level_count}
+use Rattle.lsys_laws.specs.Passes.{module_question}
+use Rattle.lsys_laws.proofs.UpTo.{level_count}
 use Rattle.lsys_level.specs.Spots.{Seen, Spotted, with_lineage, named}
 use Rattle.lsys_level.specs.Spots as S
 use Rattle.lsys_walks.specs.Stores.{Store}
@@ -25,9 +25,9 @@ use Rattle.lsys_forest.specs.Groves.{IsRooted, ReachedIn, Reached}
 use Rattle.lsys_forest.specs.Rows.{level_nodes, level_spots, spot_in}
 use Rattle.lsys_forest.proofs.RowLemmas.{In_append, In_left, In_right, In_split, apart_append, level_depth, level_apart}
 use Rattle.lsys_forest.proofs.WalkLemmas.{get_In, In_at}
-use Rattle.lsys_kept.specs.Lineages.{names}
-use Rattle.lsys_kept.specs.Levels.{HaveLevels, AnsweredAt, IsAnsweredRight, IsKeptFor, IsRight, level_of, answer_at}
-use Rattle.lsys_kept.specs.Meant.{levels_meant}
+use Rattle.lsys_reads.specs.Lineages.{names}
+use Rattle.lsys_reads.specs.Levels.{HaveLevels, AnsweredAt, IsAnsweredRight, IsKeptFor, IsRight, level_of, answer_at}
+use Rattle.lsys_reads.specs.Meant.{levels_meant}
 use Rattle.lsys_pass.specs.Stages.{Stage, was, IsDone}
 use Rattle.lsys_pass.proofs.Before.{spot_at, kept_rules, placed, is_below, answer_lives, zero_plus, reached_on, no_more}
 use Rattle.lsys_pass.proofs.Needed.{is_module}

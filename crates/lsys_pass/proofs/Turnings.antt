@@ -4,23 +4,23 @@ use Rattle.std.specs.Prelude.{Result, IfOk, OnOk, is_some, option_map}
 use Rattle.std.proofs.lemmas.Bool.{cases_lt}
 use Rattle.std.proofs.lemmas.Option.{same_Some}
 use Rattle.lsys_spec.specs.Rows.{In, AreApart}
-use Rattle.lsys_change.specs.Nodes.{Kin}
+use Rattle.lsys_laws.specs.Nodes.{Kin}
 use Rattle.lsys_match.specs.Kept.{Kept}
 use Rattle.lsys_forest.specs.Nodes.{Nodes}
 use Rattle.lsys_forest.specs.Groves.{IsLive, changes_in}
 use Rattle.lsys_forest.specs.Rows.{level_nodes}
 use Rattle.lsys_forest.proofs.RowLemmas.{In_append, In_left, In_right, apart_append, level_depth}
 use Rattle.lsys_forest.proofs.SoundLemmas.{some_of}
-use Rattle.lsys_kept.specs.Lineages.{kin_of, kins}
-use Rattle.lsys_kept.specs.Levels.{answer_at}
-use Rattle.lsys_kept.specs.declared.seat.Seat.{Seat}
-use Rattle.lsys_kept.specs.Neighbours.{neighbours_on}
-use Rattle.lsys_kept.specs.Seats.{neighbours_at, HasSeat, SameSeats, KeepsSeats}
-use Rattle.lsys_kept.proofs.LevelLemmas.{got_in}
+use Rattle.lsys_reads.specs.Lineages.{kin_of, kins}
+use Rattle.lsys_reads.specs.Levels.{answer_at}
+use Rattle.lsys_reads.specs.declared.seat.Seat.{Seat}
+use Rattle.lsys_reads.specs.Neighbours.{neighbours_on}
+use Rattle.lsys_reads.specs.Seats.{neighbours_at, HasSeat, SameSeats, KeepsSeats}
+use Rattle.lsys_reads.proofs.LevelLemmas.{got_in}
 use Rattle.lsys_front.proofs.TurnedLemmas.{told_in}
-use Rattle.lsys_candidates.specs.Repairs.{are}
-use Rattle.lsys_candidates.specs.Found.{AreOnLevels, HasSeatsForFound, IsFound}
-use Rattle.lsys_candidates.proofs.Spots.{is_in, sound_old, sound_new}
+use Rattle.lsys_front.specs.Repairs.{are}
+use Rattle.lsys_front.specs.Found.{AreOnLevels, HasSeatsForFound, IsFound}
+use Rattle.lsys_front.proofs.Spots.{is_in, sound_old, sound_new}
 use Rattle.lsys_front.specs.Fronts.{Differences, IsLevelFront}
 use Rattle.lsys_front.specs.Ends.{answered_in}
 use Rattle.lsys_front.proofs.Rooms.{was_live, is_live, seat_room, on_levels}

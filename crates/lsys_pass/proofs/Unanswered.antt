@@ -8,7 +8,7 @@ use Rattle.std.proofs.lemmas.Option.{none-some, same_Some}
 use Rattle.lsys_spec.specs.Rows.{In, AreApart}
 use Rattle.lsys_spec.specs.Draws.{number_base}
 use Rattle.lsys_level.specs.Spots.{Spotted}
-use Rattle.lsys_change.specs.Nodes.{Kins, AreOnce, Extends}
+use Rattle.lsys_laws.specs.Nodes.{Kins, AreOnce, Extends}
 use Rattle.lsys_match.specs.Kept.{Kept}
 use Rattle.lsys_forest.specs.Nodes.{Node, Nodes, with_answer}
 use Rattle.lsys_forest.specs.Answers.{answer_of}
@@ -16,16 +16,16 @@ use Rattle.lsys_forest.specs.Groves.{Grove, AreSound, IsRooted, now_of, rest_of,
 use Rattle.lsys_forest.specs.Rows.{kids_in, spot_in, level_nodes, level_spots}
 use Rattle.lsys_forest.proofs.RowLemmas.{In_append, In_left, In_right, apart_append, level_depth}
 use Rattle.lsys_forest.proofs.SoundLemmas.{AreSound-now}
-use Rattle.lsys_kept.specs.Lineages.{kin_of, kins}
-use Rattle.lsys_kept.specs.Levels.{AnsweredAt, HaveLevels, answer_at}
-use Rattle.lsys_kept.specs.Meant.{levels_meant, meant_to}
-use Rattle.lsys_kept.specs.declared.seat.Seat.{Seat}
-use Rattle.lsys_kept.specs.Neighbours.{neighbours_on}
-use Rattle.lsys_kept.specs.Seats.{is_marked, SameSeats, KeepsSeats}
-use Rattle.lsys_kept.specs.Standings.{seen_at}
-use Rattle.lsys_candidates.specs.Repairs.{SteppingSpots, were}
-use Rattle.lsys_candidates.specs.Candidates.{AsksOn}
-use Rattle.lsys_candidates.proofs.Spots.{is_in}
+use Rattle.lsys_reads.specs.Lineages.{kin_of, kins}
+use Rattle.lsys_reads.specs.Levels.{AnsweredAt, HaveLevels, answer_at}
+use Rattle.lsys_reads.specs.Meant.{levels_meant, meant_to}
+use Rattle.lsys_reads.specs.declared.seat.Seat.{Seat}
+use Rattle.lsys_reads.specs.Neighbours.{neighbours_on}
+use Rattle.lsys_reads.specs.Seats.{is_marked, SameSeats, KeepsSeats}
+use Rattle.lsys_reads.specs.Standings.{seen_at}
+use Rattle.lsys_front.specs.Repairs.{SteppingSpots, were}
+use Rattle.lsys_front.specs.Candidates.{AsksOn}
+use Rattle.lsys_front.proofs.Spots.{is_in}
 use Rattle.lsys_front.specs.Fronts.{Differences, IsLevelFront}
 use Rattle.lsys_front.specs.Losses.{LosesOnly}
 use Rattle.lsys_front.specs.Asks.{Loses}

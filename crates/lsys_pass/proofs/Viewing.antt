@@ -13,7 +13,7 @@ use Rattle.lsys_forest.specs.Rows.{spot_in, level_nodes, complete_levels, level_
 use Rattle.lsys_forest.proofs.RowLemmas.{get_split}
 use Rattle.lsys_forest.proofs.SoundLemmas.{AreSound-now}
 use Rattle.lsys_forest.proofs.ViewLemmas.{node_at, spot_of, told_is, spotted_is, own_tags}
-use Rattle.lsys_kept.proofs.LevelLemmas.{get_index, index_less}
+use Rattle.lsys_reads.proofs.LevelLemmas.{get_index, index_less}
 use Rattle.lsys_pass.specs.Passes.{PassView, now_in, IsPass}
 use Rattle.lsys_pass.specs.Views.{ForestView, tags_on, tag_place, level_in, place_among, view_of}
 

@@ -14,19 +14,19 @@ use Rattle.lsys_spec.proofs.LevelInduction.{ok_parts, ok_within}
 use Rattle.lsys_spec.proofs.Tests.{each_way}
 use Rattle.lsys_level.specs.Spots.{named}
 use Rattle.lsys_reads.specs.Rows.{has}
-use Rattle.lsys_change.specs.Passes.{is_candidate_at}
-use Rattle.lsys_change.specs.LevelCounts.{visits_at}
-use Rattle.lsys_change.proofs.Sums.{more_visits}
-use Rattle.lsys_change.proofs.UpTo.{level_count}
+use Rattle.lsys_laws.specs.Passes.{is_candidate_at}
+use Rattle.lsys_laws.specs.LevelCounts.{visits_at}
+use Rattle.lsys_laws.proofs.Sums.{more_visits}
+use Rattle.lsys_laws.proofs.UpTo.{level_count}
 use Rattle.lsys_match.specs.Derivations.{most_read}
 use Rattle.lsys_forest.specs.Groves.{IsRooted, changes_in}
 use Rattle.lsys_forest.specs.Rows.{depth_in, kids_in, spot_in, level_nodes, level_spots}
 use Rattle.lsys_forest.proofs.LinkLemmas.{levels_above}
 use Rattle.lsys_forest.proofs.RowLemmas.{In_left, In_right, level_apart, level_depth}
 use Rattle.lsys_forest.proofs.WalkLemmas.{In_at}
-use Rattle.lsys_kept.specs.Lineages.{names}
-use Rattle.lsys_kept.specs.Levels.{level_of}
-use Rattle.lsys_kept.specs.Meant.{levels_or_none, levels_meant, meant_to, level_to, IsCandidate}
+use Rattle.lsys_reads.specs.Lineages.{names}
+use Rattle.lsys_reads.specs.Levels.{level_of}
+use Rattle.lsys_reads.specs.Meant.{levels_or_none, levels_meant, meant_to, level_to, IsCandidate}
 use Rattle.lsys_pass.specs.declared.state.PassState.{PassState}
 use Rattle.lsys_pass.specs.declared.state.PassState.TheVariants.{Rest, Level, Done, Failed}
 use Rattle.lsys_pass.specs.Stages.{IsAtLevel}
@@ -254,7 +254,7 @@ visits_first v Done h e next all =
 visits_first v Rest h e next all = absurd next
 visits_first v Failed h e next all = absurd next
 
--- what the pass w has read, that stands behind level t
+-- what the pass w has read, that stands after level t
 visits_next : (w : PassView) (s : PassState) (t : ℕ) → IsPass w → w.state ≡ s → ArrivesAt w.next (t + 1) s → AllPending w w.state
     → spent_visits w ≡ candidate_visits w.system w.next (levels_meant w.system w.limit) (meant_to w.next w.limit t) + visits_at w.system w.next (levels_meant w.system w.limit) t (level_to w.next w.limit t)
 visits_next w (Level u) t h e next all =

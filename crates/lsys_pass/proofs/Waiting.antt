@@ -12,8 +12,8 @@ use Rattle.lsys_match.specs.Asks.{IsMade, KeepsStore}
 use Rattle.lsys_match.proofs.Staying.{stays_new, stays_kept, stays_released, own_runs}
 use Rattle.lsys_reads.specs.Relations.{Relations, pairs_have, SettledStay}
 use Rattle.lsys_forest.specs.Rows.{level_spots}
-use Rattle.lsys_kept.specs.Levels.{AnsweredAt, answer_at}
-use Rattle.lsys_kept.specs.Meant.{level_to}
+use Rattle.lsys_reads.specs.Levels.{AnsweredAt, answer_at}
+use Rattle.lsys_reads.specs.Meant.{level_to}
 use Rattle.lsys_pass.specs.Stages.{Stage, was, fault_in, HasFault, OutcomeBy, IsPending, IsSettled, IsAtLevel}
 use Rattle.lsys_pass.specs.Steps.{ReleasesNew}
 use Rattle.lsys_pass.proofs.Keepers.{NoneComes, none_kept, none_back}

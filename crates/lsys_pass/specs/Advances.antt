@@ -4,16 +4,16 @@ use Rattle.lsys_spec.specs.Rows.{In, AreApart}
 use Rattle.lsys_spec.specs.Systems.{WellSpelled}
 use Rattle.lsys_spec.specs.Meaning.{meaning}
 use Rattle.lsys_match.specs.Kept.{Kept}
-use Rattle.lsys_change.specs.Nodes.{AreOnce, Extends}
+use Rattle.lsys_laws.specs.Nodes.{AreOnce, Extends}
 use Rattle.lsys_forest.specs.Groves.{Reached}
 use Rattle.lsys_forest.specs.Rows.{level_nodes, level_spots}
-use Rattle.lsys_kept.specs.Lineages.{kins}
-use Rattle.lsys_kept.specs.Levels.{HaveLevels, AnsweredAt, answer_at}
-use Rattle.lsys_kept.specs.Meant.{levels_meant, IsCandidate}
-use Rattle.lsys_kept.specs.Seats.{SameSeats}
-use Rattle.lsys_candidates.specs.Asks.{AreSome}
-use Rattle.lsys_repair.specs.Nexts.{count_wanted}
-use Rattle.lsys_repair.specs.Answers.{kept_successors}
+use Rattle.lsys_reads.specs.Lineages.{kins}
+use Rattle.lsys_reads.specs.Levels.{HaveLevels, AnsweredAt, answer_at}
+use Rattle.lsys_reads.specs.Meant.{levels_meant, IsCandidate}
+use Rattle.lsys_reads.specs.Seats.{SameSeats}
+use Rattle.lsys_front.specs.Questioned.{AreSome}
+use Rattle.lsys_children.specs.Nexts.{count_wanted}
+use Rattle.lsys_children.specs.Answers.{kept_successors}
 use Rattle.lsys_pass.specs.Rests.{AreCountedLow}
 use Rattle.lsys_pass.specs.Stages.{Stage, was, IsNeededAt, HasTree, HasSeats, IsAtLevel}
 
@@ -93,7 +93,7 @@ pub record BeginsAnew (old new : Stage) : Type 0 where
   pub drops : Drops old new 0
   pub seats : HasSeats new 0
 
--- and it is one whose questions are to be asked; none is dropped yet of the old levels behind it
+-- and it is one whose questions are to be asked; none is dropped yet of the old levels after it
 pub record Advances (s : Stage) (t : ℕ) : Type 0 where
   pub tree : HasTree s.now (was s) s.root s.next s.limit t
   pub ask : AreToAsk s t

@@ -5,8 +5,8 @@ use Rattle.lsys_spec.specs.Rows.{In}
 use Rattle.lsys_spec.specs.Systems.{System}
 use Rattle.lsys_forest.specs.Groves.{Grove, now_of}
 use Rattle.lsys_forest.specs.Rows.{level_nodes}
-use Rattle.lsys_candidates.specs.Candidates.{AsksOn}
-use Rattle.lsys_candidates.specs.Asks.{AreSome}
+use Rattle.lsys_front.specs.Candidates.{AsksOn}
+use Rattle.lsys_front.specs.Questioned.{AreSome}
 
 -- these are those of a row that are of this kind, in its order
 pub record AreThose (kind : ℕ → Type 0) (row these : List ℕ) : Type 0 where

@@ -5,16 +5,16 @@ use Rattle.lsys_rewrite.specs.declared.refusal.DeriveRefusal.{DeriveRefusal}
 use Rattle.lsys_match.specs.Kept.{Kept}
 use Rattle.lsys_forest.specs.Nodes.{Nodes, root_node}
 use Rattle.lsys_forest.specs.Groves.{Grove, now_of, changes_in, live_nodes, IsAtRest}
-use Rattle.lsys_kept.specs.declared.seat.Seat.{Seat}
-use Rattle.lsys_kept.specs.Seats.{is_marked, HasSeat}
+use Rattle.lsys_reads.specs.declared.seat.Seat.{Seat}
+use Rattle.lsys_reads.specs.Seats.{is_marked, HasSeat}
 use Rattle.lsys_forest.specs.Rows.{kids_in}
-use Rattle.lsys_brood.specs.declared.need.Need.{Need}
-use Rattle.lsys_brood.specs.Matches.{nodes_without}
-use Rattle.lsys_brood.specs.Children.{ToldNodes}
-use Rattle.lsys_repair.specs.Nexts.{wanted_count}
-use Rattle.lsys_repair.specs.Renewals.{AreRenewals}
-use Rattle.lsys_repair.specs.Needs.{need_for, number_told, wanted_symbols}
-use Rattle.lsys_repair.specs.Made.{TellsAllOf}
+use Rattle.lsys_children.specs.declared.need.Need.{Need}
+use Rattle.lsys_children.specs.Matches.{nodes_without}
+use Rattle.lsys_children.specs.Children.{ToldNodes}
+use Rattle.lsys_children.specs.Nexts.{wanted_count}
+use Rattle.lsys_children.specs.Renewals.{AreRenewals}
+use Rattle.lsys_children.specs.Needs.{need_for, number_told, wanted_symbols}
+use Rattle.lsys_children.specs.Made.{TellsAllOf}
 use Rattle.lsys_front.specs.Fronts.{nothing}
 use Rattle.lsys_pass.specs.declared.state.PassState.TheVariants.{Rest}
 use Rattle.lsys_pass.specs.Passes.{PassView, now_in, rest_in, IsPass}

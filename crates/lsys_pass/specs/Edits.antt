@@ -6,8 +6,8 @@ use Rattle.lsys_spec.specs.LevelLaws.{candidate_visits}
 use Rattle.lsys_spec.specs.Questions.{least_visits, questions}
 use Rattle.lsys_rewrite.specs.declared.count.EditCount.{EditCount}
 use Rattle.lsys_match.specs.Derivations.{AreMeant, IsCount, Rises}
-use Rattle.lsys_change.specs.Nodes.{Kins, AreOnce, Extends}
-use Rattle.lsys_kept.specs.Lineages.{kins}
+use Rattle.lsys_laws.specs.Nodes.{Kins, AreOnce, Extends}
+use Rattle.lsys_reads.specs.Lineages.{kins}
 use Rattle.lsys_pass.specs.Passes.{PassView, now_in}
 
 -- The nodes of two views belong together: all that live in either have a parent and a number each, the same in both, and no two

@@ -3,16 +3,16 @@ use Rattle.std.specs.Prelude.{◌≡◌, ◌<◌, ◌≤◌, ◌+◌, ◌⊎◌,
 use Rattle.lsys_spec.specs.Rows.{In, AreApart}
 use Rattle.lsys_match.specs.Kept.{Kept}
 use Rattle.lsys_forest.specs.Rows.{level_nodes}
-use Rattle.lsys_kept.specs.Levels.{answer_at}
-use Rattle.lsys_kept.specs.Neighbours.{neighbours_on, neighbours_in}
-use Rattle.lsys_kept.specs.Seats.{neighbours_at, HasSeat}
-use Rattle.lsys_repair.specs.Nexts.{Successors, AreClosed, HasWanted, wanted_in}
-use Rattle.lsys_repair.specs.Answers.{kept_successors}
-use Rattle.lsys_repair.specs.Renewals.{KeepsDeeper}
-use Rattle.lsys_repair.specs.declared.parent.Parent.{Parent}
-use Rattle.lsys_repair.specs.Parents.{nodes_in, AreParents, AreToldBy, cut_parents, uncut}
-use Rattle.lsys_candidates.specs.Repairs.{SteppingSpots}
-use Rattle.lsys_candidates.specs.Found.{Differs, IsFound}
+use Rattle.lsys_reads.specs.Levels.{answer_at}
+use Rattle.lsys_reads.specs.Neighbours.{neighbours_on, neighbours_in}
+use Rattle.lsys_reads.specs.Seats.{neighbours_at, HasSeat}
+use Rattle.lsys_children.specs.Nexts.{Successors, AreClosed, HasWanted, wanted_in}
+use Rattle.lsys_children.specs.Answers.{kept_successors}
+use Rattle.lsys_children.specs.Renewals.{KeepsDeeper}
+use Rattle.lsys_children.specs.declared.parent.Parent.{Parent}
+use Rattle.lsys_children.specs.Parents.{nodes_in, AreParents, AreToldBy, cut_parents, uncut}
+use Rattle.lsys_front.specs.Repairs.{SteppingSpots}
+use Rattle.lsys_front.specs.Found.{Differs, IsFound}
 use Rattle.lsys_front.specs.Fronts.{IsLevelFront, MayHaveOthers}
 use Rattle.lsys_pass.specs.declared.state.PassState.TheVariants.{Level}
 use Rattle.lsys_pass.specs.Sizes.{HaveSizesTo, opens_at, with_level}
@@ -41,7 +41,7 @@ wanted_on_level v t = wanted_in (P.now_in v) (kept_successors (P.now_in v)) None
 abbrev pub IsChanged : PassView → ℕ → Type 0
 IsChanged v k = MayHaveOthers v.front (drop v.first_renewed v.renewed) k
 
--- The level was not the last one, keys and lineages are the same, and no cut on it reached what stood behind it.
+-- The level was not the last one, keys and lineages are the same, and no cut on it reached what stood after it.
 pub record IsMadeAlike (v : PassView) (t : ℕ) : Type 0 where
   pub below : t < v.system.depth
   pub seed : v.next.seed ≡ v.system.seed
@@ -58,13 +58,13 @@ pub record AreNextParents (v : PassView) (t : ℕ) (ps : List Parent) : Type 0 w
       ⊎ HasWanted v.next.numbering v.next.seed (P.now_in v) k (wanted_on_level v t k)
 
 -- They are all nodes of the level, as a walk tells them; or some of them, none of them cut off, where no cut reaches what stands
--- behind one of the level.
+-- after one of the level.
 abbrev pub AreWalkedOrAlone : PassView → ℕ → Bool → List Parent → Type 0
 AreWalkedOrAlone v t true ps = ps ≡ cut_parents (P.now_in v) None (row_of v t)
 AreWalkedOrAlone v t false ps =
     AreClosed (kept_successors (P.now_in v)) (row_of v t) × (ps ≡ map uncut (nodes_in ps))
 
--- no cut on the level reaches what stands behind it, unless the level is open
+-- no cut on the level reaches what stands after it, unless the level is open
 abbrev pub IsClosedUnless : PassView → ℕ → Bool → Type 0
 IsClosedUnless v t is_open = is_open ≡ false → AreClosed (kept_successors (P.now_in v)) (row_of v t)
 

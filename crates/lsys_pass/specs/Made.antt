@@ -3,12 +3,12 @@ use Rattle.std.specs.Prelude.{◌≡◌, ◌<◌, ◌^◌, [], ℕ, Bool, List}
 use Rattle.lsys_syntax.specs.Commands.{Numbering}
 use Rattle.lsys_match.specs.Kept.{Kept}
 use Rattle.lsys_forest.specs.Groves.{Grove, AreSound, now_of, rest_of, changes_in, kept_in, live_nodes}
-use Rattle.lsys_brood.specs.Children.{ToldNodes}
-use Rattle.lsys_repair.specs.Nexts.{Successors}
-use Rattle.lsys_repair.specs.Renewals.{AreRenewals}
-use Rattle.lsys_repair.specs.declared.parent.Parent.{Parent}
-use Rattle.lsys_repair.specs.Parents.{nodes_in, AreParents, AreToldBy}
-use Rattle.lsys_repair.specs.Made.{TellsAllOf, gone_of}
+use Rattle.lsys_children.specs.Children.{ToldNodes}
+use Rattle.lsys_children.specs.Nexts.{Successors}
+use Rattle.lsys_children.specs.Renewals.{AreRenewals}
+use Rattle.lsys_children.specs.declared.parent.Parent.{Parent}
+use Rattle.lsys_children.specs.Parents.{nodes_in, AreParents, AreToldBy}
+use Rattle.lsys_children.specs.Made.{TellsAllOf, gone_of}
 use Rattle.lsys_front.specs.Fronts.{Differences, IsToldFirst, IsToldNext, nothing}
 use Rattle.lsys_front.specs.LooksFrom.{LooksIfThere, LooksOnlyBelow, first_nodes}
 use Rattle.lsys_pass.specs.declared.sizes.Sizes.{Sizes}

@@ -9,8 +9,8 @@ use Rattle.lsys_match.specs.Asks.{ByDefinition, by_definition}
 use Rattle.lsys_reads.specs.Relations.{SettledStay}
 use Rattle.lsys_forest.specs.Groves.{Reached}
 use Rattle.lsys_forest.specs.Rows.{level_nodes}
-use Rattle.lsys_kept.specs.Levels.{level_of}
-use Rattle.lsys_kept.specs.Meant.{levels_meant, level_to}
+use Rattle.lsys_reads.specs.Levels.{level_of}
+use Rattle.lsys_reads.specs.Meant.{levels_meant, level_to}
 use Rattle.lsys_pass.specs.declared.state.PassState.{PassState}
 use Rattle.lsys_pass.specs.declared.state.PassState.TheVariants.{Rest, Level, Done, Failed}
 use Rattle.lsys_pass.specs.Stages.{fault_in}
@@ -53,7 +53,7 @@ pub record StepsOver (old new : PassView) (node : ℕ) : Type 0 where
   pub levels : (t : ℕ) → level_of (now_in new) new.forest.root t ≡ level_of (now_in old) old.forest.root t
   pub faults : (k : ℕ) → k ≢ node → fault_in k new.faults ≡ fault_in k old.faults
 
--- for want of memory nothing was kept
+-- for lack of memory nothing was kept
 pub record Waits (old new : PassView) : Type 0 where
   pub run : SameRun old new
   pub state : new.state ≡ old.state

@@ -1,8 +1,8 @@
 -- The parents of the next level, and what they want together.
 use Rattle.std.specs.Prelude.{ℕ, length}
-use Rattle.lsys_repair.specs.declared.count.Count.{Count}
-use Rattle.lsys_brood.specs.declared.need.Need.{Need}
-use Rattle.lsys_repair.specs.Needs.{IsBoundedCount, count_of_all, had_by_all, needs}
+use Rattle.lsys_children.specs.declared.count.Count.{Count}
+use Rattle.lsys_children.specs.declared.need.Need.{Need}
+use Rattle.lsys_children.specs.Needs.{IsBoundedCount, count_of_all, had_by_all, needs}
 use Rattle.lsys_pass.specs.declared.parents.Parents.{Parents}
 use Rattle.lsys_pass.specs.Fresh.{AreWalkedOrAlone}
 use Rattle.lsys_pass.specs.Passes.{PassView, now_in}

@@ -3,8 +3,8 @@ use Rattle.std.specs.Prelude.{◌≡◌, ◌<◌, ◌≤◌, ◌↔◌, ℕ, Lis
 use Rattle.lsys_spec.specs.Rows.{In}
 use Rattle.lsys_forest.specs.Groves.{Grove, IsLive, now_of}
 use Rattle.lsys_forest.specs.Rows.{level_nodes}
-use Rattle.lsys_candidates.specs.Others.{RulesOf, IsOtherwise}
-use Rattle.lsys_candidates.specs.Asks.{AddsOf}
+use Rattle.lsys_front.specs.Others.{RulesOf, IsOtherwise}
+use Rattle.lsys_front.specs.Questioned.{AddsOf}
 use Rattle.lsys_pass.specs.Passes.{PassView}
 use Rattle.lsys_pass.specs.Passes as P
 use Rattle.lsys_pass.specs.Fresh.{row_of}

@@ -9,12 +9,12 @@ use Rattle.lsys_reads.specs.Relations.{Relations}
 use Rattle.lsys_forest.specs.Nodes.{Node, Nodes}
 use Rattle.lsys_forest.specs.Groves.{Grove, now_of, rest_of, changes_in, live_nodes}
 use Rattle.lsys_forest.specs.Rows.{level_nodes}
-use Rattle.lsys_kept.specs.Names.{RunName, run_in, holds}
-use Rattle.lsys_kept.specs.Levels.{answer_at}
-use Rattle.lsys_kept.specs.Meant.{levels_meant}
-use Rattle.lsys_kept.specs.declared.seat.Seat.{Seat}
-use Rattle.lsys_kept.specs.Seats.{is_marked, HasSeat}
-use Rattle.lsys_candidates.specs.Repairs.{Repair}
+use Rattle.lsys_reads.specs.Names.{RunName, run_in, holds}
+use Rattle.lsys_reads.specs.Levels.{answer_at}
+use Rattle.lsys_reads.specs.Meant.{levels_meant}
+use Rattle.lsys_reads.specs.declared.seat.Seat.{Seat}
+use Rattle.lsys_reads.specs.Seats.{is_marked, HasSeat}
+use Rattle.lsys_front.specs.Repairs.{Repair}
 use Rattle.lsys_front.specs.Fronts.{Differences, IsLevelFront}
 use Rattle.lsys_pass.specs.declared.state.PassState.{PassState}
 use Rattle.lsys_pass.specs.declared.state.PassState.TheVariants.{Rest, Level, Done, Failed}

@@ -18,7 +18,7 @@ KnowsGone part =
     (s : Slot) → slice_get part (length part / 2) ≡ Some s
     → s.gone + length (those_left (take (length part / 2) part)) ≡ length part / 2
 
--- so it is in a part, and if it isn't empty, among those before its middle and among those behind it
+-- so it is in a part, and if it isn't empty, among those before its middle and among those after it
 pub data AreCounted : List Slot → Type 0 where
   InHalves : {part : List Slot} → KnowsGone part
       → (0 < length part → AreCounted (take (length part / 2) part))

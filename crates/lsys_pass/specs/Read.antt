@@ -5,7 +5,7 @@ use Rattle.lsys_reads.specs.Relations.{Relations, is_pending, is_settled}
 use Rattle.lsys_reads.specs.Rows.{has}
 use Rattle.lsys_walks.specs.declared.entry.Entry.{Entry}
 use Rattle.lsys_walks.specs.Views.{noted_of}
-use Rattle.lsys_kept.specs.Levels.{tags_named}
+use Rattle.lsys_reads.specs.Levels.{tags_named}
 
 -- the tags that an entry names, whatever parameters a module has
 abbrev pub entry_tags : Entry → List ℕ
@@ -21,12 +21,12 @@ pair_of reader seen = record { reader = reader; seen = seen }
 abbrev pub pairs_of : ℕ → List ℕ → List Pair
 pairs_of reader tags = map (pair_of reader) tags
 
--- those that were there are there, and maybe others behind them
+-- those that were there are there, and maybe others after them
 pub record ComesBehind (old new : List Pair) : Type 0 where
   pub more : List Pair
   pub is : new ≡ old ++ more
 
--- what a reader saw is pending, behind what was
+-- what a reader saw is pending, after what was
 abbrev pub AddsPairs : Relations → Relations → ℕ → List ℕ → Type 0
 AddsPairs old new reader tags = new.pending ≡ old.pending ++ pairs_of reader tags
 

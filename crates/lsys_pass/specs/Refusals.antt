@@ -6,7 +6,7 @@ use Rattle.lsys_rewrite.specs.Faults.{fault_of}
 use Rattle.lsys_rewrite.specs.declared.refusal.FaultKind.{FaultKind}
 use Rattle.lsys_rewrite.specs.declared.refusal.DeriveRefusal.{DeriveRefusal}
 use Rattle.lsys_rewrite.specs.declared.refusal.DeriveRefusal.TheVariants.{Fault, Limit, Memory}
-use Rattle.lsys_kept.specs.Meant.{level_to}
+use Rattle.lsys_reads.specs.Meant.{level_to}
 use Rattle.lsys_pass.specs.declared.state.PassState.{PassState}
 use Rattle.lsys_pass.specs.declared.state.PassState.TheVariants.{Rest, Level, Done, Failed}
 use Rattle.lsys_pass.specs.Passes.{PassView}
@@ -20,7 +20,7 @@ pub record RefusesFirst {T : Type 0} (s : System) (limit : ℕ) (r : Result T De
       → (r ≡ Err (Limit u)) ↔ ((u ≡ 0) × (limit < length (first_level s)))
   pub no_fault : (kind : FaultKind) (u n : ℕ) → r ≡ Err (Fault kind u n) → ⊥
 
--- Where the level behind level t is to be made, a fault is answered exactly where a module of level t has one: the leftmost, with
+-- Where the level after level t is to be made, a fault is answered exactly where a module of level t has one: the leftmost, with
 -- the number of its module. And the limit exactly where none has, and with the next level they are longer, but for want of
 -- memory.
 pub record RefusesNext {T : Type 0} (s : System) (limit t : ℕ) (r : Result T DeriveRefusal) : Type 0 where

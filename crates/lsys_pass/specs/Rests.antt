@@ -8,22 +8,22 @@ use Rattle.lsys_walks.specs.Stores.{Store}
 use Rattle.lsys_match.specs.Kept.{Kept}
 use Rattle.lsys_match.specs.Asks.{IsMade}
 use Rattle.lsys_reads.specs.Relations.{Relations, is_settled}
-use Rattle.lsys_change.specs.Nodes.{AreOnce}
+use Rattle.lsys_laws.specs.Nodes.{AreOnce}
 use Rattle.lsys_forest.specs.Nodes.{Node, Nodes}
 use Rattle.lsys_forest.specs.Groves.{Reached}
 use Rattle.lsys_forest.specs.Rows.{level_nodes}
-use Rattle.lsys_kept.specs.Lineages.{kins}
-use Rattle.lsys_kept.specs.Levels.{HaveLevels, AnsweredAt, answer_at, HasRead}
-use Rattle.lsys_kept.specs.Meant.{levels_meant}
-use Rattle.lsys_kept.specs.declared.seat.Seat.{Seat}
-use Rattle.lsys_kept.specs.Standings.{AreSeated}
+use Rattle.lsys_reads.specs.Lineages.{kins}
+use Rattle.lsys_reads.specs.Levels.{HaveLevels, AnsweredAt, answer_at, HasRead}
+use Rattle.lsys_reads.specs.Meant.{levels_meant}
+use Rattle.lsys_reads.specs.declared.seat.Seat.{Seat}
+use Rattle.lsys_reads.specs.Standings.{AreSeated}
 
 -- Counts of children that have one code are small, so that code and count are one number.
 abbrev pub AreCountedLow : Nodes Kept → Type 0
 AreCountedLow m = (k : ℕ) (n : Node Kept) → m k ≡ Some n → n.count < number_base
 
 -- The nodes are the levels of the system, with the answers to all its questions; who read what is settled; and the seat of
--- each node tells who is beside it. Behind the last level there are no nodes, and no node lives that is not reached.
+-- each node tells who is beside it. After the last level there are no nodes, and no node lives that is not reached.
 pub record IsResting (s : System) (limit : ℕ) (m : Nodes Kept) (root : ℕ) (store : Store) (reads : Relations)
     (seats : List Seat) : Type 0 where
   pub spelled : WellSpelled s

@@ -1,8 +1,8 @@
 -- Seats that some nodes took anew.
 use Rattle.std.specs.Prelude.{◌≡◌, ℕ, List}
 use Rattle.lsys_spec.specs.Rows.{In}
-use Rattle.lsys_kept.specs.declared.seat.Seat.{Seat}
-use Rattle.lsys_kept.specs.Seats.{neighbours_at}
+use Rattle.lsys_reads.specs.declared.seat.Seat.{Seat}
+use Rattle.lsys_reads.specs.Seats.{neighbours_at}
 
 -- the seats of all other nodes tell what they told
 abbrev pub KeepsOtherSeats : List Seat → List Seat → List ℕ → Type 0

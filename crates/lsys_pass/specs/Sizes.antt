@@ -1,10 +1,10 @@
--- How long levels are, and on which of them a cut may reach what stands behind.
+-- How long levels are, and on which of them a cut may reach what stands after.
 use Rattle.std.specs.Prelude.{◌≡◌, ◌<◌, ◌≤◌, ◌+◌, ◌++◌, ℕ, zero, suc, Bool, false, List, [], ◌∷◌, length, sum_by}
 use Rattle.lsys_match.specs.Kept.{Kept}
 use Rattle.lsys_forest.specs.Nodes.{Nodes}
 use Rattle.lsys_forest.specs.Rows.{level_nodes}
-use Rattle.lsys_repair.specs.Nexts.{AreClosed}
-use Rattle.lsys_repair.specs.Answers.{kept_successors}
+use Rattle.lsys_children.specs.Nexts.{AreClosed}
+use Rattle.lsys_children.specs.Answers.{kept_successors}
 use Rattle.lsys_pass.specs.declared.sizes.Size.{Size}
 use Rattle.lsys_pass.specs.declared.state.PassState.{PassState}
 use Rattle.lsys_pass.specs.declared.state.PassState.TheVariants.{Rest, Level, Done, Failed}
@@ -36,7 +36,7 @@ abbrev pub with_level : List Size → ℕ → List Size
 with_level xs n = xs ++ record { symbols = n; is_open = false } ∷ []
 
 -- They are the sizes of the nodes' levels: how many nodes each has; and where one isn't open, no cut among what replaces one of
--- its nodes reaches what stands behind.
+-- its nodes reaches what stands after.
 pub record HaveSizes (m : Nodes Kept) (root : ℕ) (sizes : List Size) : Type 0 where
   pub symbols : (t : ℕ) → symbols_at sizes t ≡ length (level_nodes m root t)
   pub closed : (t : ℕ) → opens_at sizes t ≡ false → AreClosed (kept_successors m) (level_nodes m root t)

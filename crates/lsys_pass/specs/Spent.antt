@@ -7,10 +7,10 @@ use Rattle.lsys_spec.specs.Questions.{questions_from}
 use Rattle.lsys_spec.specs.LevelLaws.{candidate_visits}
 use Rattle.lsys_match.specs.Derivations.{most_read}
 use Rattle.lsys_reads.specs.Rows.{has}
-use Rattle.lsys_change.specs.Passes.{is_candidate_at}
-use Rattle.lsys_change.specs.LevelCounts.{read_by}
+use Rattle.lsys_laws.specs.Passes.{is_candidate_at}
+use Rattle.lsys_laws.specs.LevelCounts.{read_by}
 use Rattle.lsys_forest.specs.Rows.{level_nodes}
-use Rattle.lsys_kept.specs.Meant.{levels_meant, meant_to, level_to, IsCandidate}
+use Rattle.lsys_reads.specs.Meant.{levels_meant, meant_to, level_to, IsCandidate}
 use Rattle.lsys_pass.specs.declared.state.PassState.{PassState}
 use Rattle.lsys_pass.specs.declared.state.PassState.TheVariants.{Rest, Level, Done, Failed}
 use Rattle.lsys_pass.specs.Passes.{PassView, now_in}

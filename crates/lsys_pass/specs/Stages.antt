@@ -11,20 +11,20 @@ use Rattle.lsys_walks.specs.Stores.{Store}
 use Rattle.lsys_match.specs.Kept.{Kept}
 use Rattle.lsys_match.specs.Asks.{IsMade}
 use Rattle.lsys_reads.specs.Relations.{Relations, is_pending}
-use Rattle.lsys_change.specs.Nodes.{AreOnce, Extends}
+use Rattle.lsys_laws.specs.Nodes.{AreOnce, Extends}
 use Rattle.lsys_forest.specs.Nodes.{Node, Nodes}
 use Rattle.lsys_forest.specs.Changes.{Change, undone}
 use Rattle.lsys_forest.specs.Answers.{AnswerKeeper, answers, IsHeld}
 use Rattle.lsys_forest.specs.Groves.{AreSound, Reached}
 use Rattle.lsys_forest.specs.Rows.{level_nodes}
-use Rattle.lsys_kept.specs.Names.{RunName, run_in, holds}
-use Rattle.lsys_kept.specs.Lineages.{kins}
-use Rattle.lsys_kept.specs.Levels.{HaveLevels, AnsweredAt, level_of, answer_at, HasRead}
-use Rattle.lsys_kept.specs.Meant.{levels_meant, meant_to, level_to, IsCandidate, IsNeeded}
-use Rattle.lsys_kept.specs.declared.seat.Seat.{Seat}
-use Rattle.lsys_kept.specs.Neighbours.{neighbours_on}
-use Rattle.lsys_kept.specs.Seats.{neighbours_at, HasSeat}
-use Rattle.lsys_candidates.specs.Asks.{AreSome}
+use Rattle.lsys_reads.specs.Names.{RunName, run_in, holds}
+use Rattle.lsys_reads.specs.Lineages.{kins}
+use Rattle.lsys_reads.specs.Levels.{HaveLevels, AnsweredAt, level_of, answer_at, HasRead}
+use Rattle.lsys_reads.specs.Meant.{levels_meant, meant_to, level_to, IsCandidate, IsNeeded}
+use Rattle.lsys_reads.specs.declared.seat.Seat.{Seat}
+use Rattle.lsys_reads.specs.Neighbours.{neighbours_on}
+use Rattle.lsys_reads.specs.Seats.{neighbours_at, HasSeat}
+use Rattle.lsys_front.specs.Questioned.{AreSome}
 use Rattle.lsys_pass.specs.declared.fault.Faulted.{Faulted}
 use Rattle.lsys_pass.specs.Rests.{AreCountedLow, IsResting}
 

@@ -12,7 +12,7 @@ use Rattle.lsys_reads.specs.Relations.{Relations, SettledStay}
 use Rattle.lsys_forest.specs.Nodes.{Node, with_answer}
 use Rattle.lsys_forest.specs.Changes.{OldAnswer}
 use Rattle.lsys_forest.specs.Groves.{Grove, Sets, now_of, changes_in, live_nodes}
-use Rattle.lsys_kept.specs.Levels.{tags_read}
+use Rattle.lsys_reads.specs.Levels.{tags_read}
 use Rattle.lsys_pass.specs.declared.work.Work.{Work}
 use Rattle.lsys_pass.specs.Read.{pairs_of}
 

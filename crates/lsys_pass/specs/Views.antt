@@ -10,7 +10,7 @@ use Rattle.lsys_match.specs.Kept.{Kept}
 use Rattle.lsys_forest.specs.Nodes.{Node, Nodes}
 use Rattle.lsys_forest.specs.Groves.{IsLive}
 use Rattle.lsys_forest.specs.Rows.{index_in, level_nodes, complete_levels}
-use Rattle.lsys_kept.specs.Levels.{AnsweredAt, answer_at}
+use Rattle.lsys_reads.specs.Levels.{AnsweredAt, answer_at}
 use Rattle.lsys_pass.specs.declared.state.PassState.TheVariants.{Rest}
 use Rattle.lsys_pass.specs.Passes.{PassView, now_in}
 

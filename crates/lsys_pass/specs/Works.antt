@@ -3,8 +3,8 @@ use Rattle.std.specs.Prelude.{◌≡◌, ◌<◌, ◌++◌, ℕ, List, [], vec_l
 use Rattle.lsys_rewrite.specs.declared.refusal.FaultKind.{FaultKind}
 use Rattle.lsys_reads.specs.Relations.{Relations}
 use Rattle.lsys_forest.specs.Groves.{Grove, now_of}
-use Rattle.lsys_kept.specs.declared.seat.Seat.{Seat}
-use Rattle.lsys_candidates.specs.Found.{IsFound}
+use Rattle.lsys_reads.specs.declared.seat.Seat.{Seat}
+use Rattle.lsys_front.specs.Found.{IsFound}
 use Rattle.lsys_front.specs.declared.asks.Found.{Found}
 use Rattle.lsys_front.specs.Ends.{answered_in}
 use Rattle.lsys_front.specs.Fronts.{no_differences}

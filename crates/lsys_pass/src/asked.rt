@@ -1,6 +1,6 @@
 //! Who is asked on a level that was made.
 ghost use Rattle.std.specs.Prelude.{◌≡◌, ◌<◌, ◌≤◌, ◌^◌, ℕ, List, length, IsTrue, IfOk, OnOk};
-ghost use Rattle.lsys_candidates.specs.Others.{AreAllAlike};
+ghost use Rattle.lsys_front.specs.Others.{AreAllAlike};
 ghost use Rattle.lsys_spec.specs.Rows.{In};
 ghost use Rattle.lsys_forest.specs.Groves.{IsLive, now_of};
 ghost use Rattle.lsys_forest.specs.Rows.{complete_levels, level_nodes};
@@ -14,11 +14,10 @@ ghost use Rattle.lsys_pass.specs.AskedLevels.{ListsAsked, AddsIfAsked};
 use crate::keep::target;
 use crate::next_level::is_asked;
 use crate::pass::Pass;
-use lsys_candidates::{LevelRules, add_others, has_question};
+use lsys_children::list_level;
 use lsys_forest::{Forest, Kept, NodeId};
-use lsys_front::Found;
+use lsys_front::{Found, LevelRules, add_others, has_question};
 use lsys_level::LevelView;
-use lsys_repair::list_level;
 use lsys_rules::System;
 use std::alloc::{AllocError, Global};
 use std::sync::ledger::Ledger;
@@ -32,7 +31,7 @@ impl<L: Ledger> Pass<L> {
     ///
     /// # Errors
     ///
-    /// Want of memory. The last rest stays.
+    /// Out of memory. The last rest stays.
     pub(crate) fn ask_level(
         &mut self,
         alloc: Global,
@@ -62,7 +61,7 @@ impl<L: Ledger> Pass<L> {
     ///
     /// # Errors
     ///
-    /// Want of memory. The last rest stays.
+    /// Out of memory. The last rest stays.
     fn ask_all(&mut self, alloc: Global, level: u32) -> Result<(), AllocError>
         requires failed { self.old.state ≡ Failed }
         requires found { (beside : List ℕ) × (readers : List ℕ)
@@ -88,7 +87,7 @@ impl<L: Ledger> Pass<L> {
     ///
     /// # Errors
     ///
-    /// Want of memory. The last rest stays.
+    /// Out of memory. The last rest stays.
     fn ask_found(&mut self, alloc: Global, level: u32, found: &Found) -> Result<(), AllocError>
         requires failed { self.old.state ≡ Failed }
         requires found { HasFound self.old level found.now.beside.items found.now.readers.items }
@@ -129,7 +128,7 @@ impl<L: Ledger> Pass<L> {
     ///
     /// # Errors
     ///
-    /// Want of memory.
+    /// Out of memory.
     fn find_unlike(&self, alloc: Global, level: u32) -> Result<Vec<NodeId>, AllocError>
         requires complete { level < length (complete_levels self.now.forest) }
         requires below { level < self.now.system.depth }
@@ -146,7 +145,7 @@ impl<L: Ledger> Pass<L> {
 ///
 /// # Errors
 ///
-/// Want of memory.
+/// Out of memory.
 fn asked_on<A: Kept>(
     alloc: Global,
     system: &System,
@@ -170,7 +169,7 @@ fn asked_on<A: Kept>(
 ///
 /// # Errors
 ///
-/// Want of memory.
+/// Out of memory.
 fn add_if_asked<A: Kept>(
     system: &System,
     level: u32,
@@ -191,7 +190,7 @@ fn add_if_asked<A: Kept>(
 ///
 /// # Errors
 ///
-/// Want of memory.
+/// Out of memory.
 fn nodes_on<A: Kept>(
     alloc: Global,
     forest: &Forest<A>,
@@ -210,7 +209,7 @@ fn nodes_on<A: Kept>(
 ///
 /// # Errors
 ///
-/// Want of memory.
+/// Out of memory.
 fn unlike_on<A: Kept>(
     alloc: Global,
     rules: &mut LevelRules<'_>,
@@ -233,7 +232,7 @@ fn unlike_on<A: Kept>(
 ///
 /// # Errors
 ///
-/// Want of memory.
+/// Out of memory.
 fn are_known_alike(rules: &mut LevelRules<'_>, is_short: bool) -> Result<bool, AllocError>
     ensures alike { IfOk result (λ all. IsTrue all → AreAllAlike rules.old) }
     ensures same { rules.new ≡ rules.old }
@@ -248,7 +247,7 @@ fn are_known_alike(rules: &mut LevelRules<'_>, is_short: bool) -> Result<bool, A
 ///
 /// # Errors
 ///
-/// Want of memory.
+/// Out of memory.
 fn others_on<A: Kept>(
     alloc: Global,
     rules: &mut LevelRules<'_>,

@@ -2,11 +2,11 @@
 ghost use Rattle.std.specs.Prelude.{◌≡◌, ◌<◌, ◌≤◌, ◌^◌, ℕ, [], length, IfOk, IfErr, OnOk, OnErr};
 ghost use Rattle.lsys_spec.specs.Meaning.{first_level};
 ghost use Rattle.lsys_match.specs.Derivations.{IsLevelRefusal};
-ghost use Rattle.lsys_change.specs.Nodes.{AreOnce};
+ghost use Rattle.lsys_laws.specs.Nodes.{AreOnce};
 ghost use Rattle.lsys_forest.specs.Groves.{AreSound, IsLive, now_of, rest_of, changes_in, kept_in, live_nodes};
-ghost use Rattle.lsys_kept.specs.Lineages.{kins};
-ghost use Rattle.lsys_kept.specs.Seats.{HasSeat, SameSeats, SameMarks, KeepsSeats};
-ghost use Rattle.lsys_repair.specs.Renewals.{AreSmall, AreAllUnder};
+ghost use Rattle.lsys_reads.specs.Lineages.{kins};
+ghost use Rattle.lsys_reads.specs.Seats.{HasSeat, SameSeats, SameMarks, KeepsSeats};
+ghost use Rattle.lsys_children.specs.Renewals.{AreSmall, AreAllUnder};
 ghost use Rattle.lsys_front.specs.LooksFrom.{first_nodes};
 ghost use Rattle.lsys_pass.specs.declared.state.PassState.TheVariants.{Rest, Failed};
 ghost use Rattle.lsys_pass.specs.Sizes.{with_level};
@@ -25,14 +25,12 @@ use crate::room::reserve_for;
 use crate::seating::make_seats;
 use crate::sizes::Sizes;
 use crate::state::PassState;
-use lsys_brood::{Brood, Changes, Need};
+use lsys_children::{Brood, Changes, Need, Wanted, count_first, make_first};
 use lsys_forest::{Forest, Kept};
 use lsys_front::Front;
-use lsys_kept::{KeptAnswer, Seats};
-use lsys_repair::{count_first, make_first};
+use lsys_reads::{KeptAnswer, Seats};
 use lsys_rewrite::DeriveRefusal;
 use lsys_rules::System;
-use lsys_wanted::Wanted;
 use std::alloc::{AllocError, Global};
 use std::sync::ledger::Ledger;
 
@@ -42,7 +40,7 @@ impl<L: Ledger> Pass<L> {
     ///
     /// # Errors
     ///
-    /// The limit, or want of memory. The pass is at rest again then, as it was, and the system is dropped.
+    /// The limit, or lack of memory. The pass is at rest again then, as it was, and the system is dropped.
     pub fn begin(&mut self, alloc: Global, system: System) -> Result<(), DeriveRefusal>
         requires state { self.old.state ≡ Rest }
         ensures begins { OnOk result (Begun self.old self.new system) }
@@ -65,7 +63,7 @@ impl<L: Ledger> Pass<L> {
     ///
     /// # Errors
     ///
-    /// The limit, or want of memory. The last rest stays then too.
+    /// The limit, or lack of memory. The last rest stays then too.
     fn come_to_first(&mut self, alloc: Global) -> Result<(), DeriveRefusal>
         requires failed { self.old.state ≡ Failed }
         requires still { WasStill self.old }
@@ -87,7 +85,7 @@ impl<L: Ledger> Pass<L> {
     ///
     /// # Errors
     ///
-    /// The limit, or want of memory. The last rest stays then too.
+    /// The limit, or lack of memory. The last rest stays then too.
     fn make_first_level(&mut self, alloc: Global) -> Result<(), DeriveRefusal>
         requires failed { self.old.state ≡ Failed }
         requires still { WasStill self.old }
@@ -125,7 +123,7 @@ impl<L: Ledger> Pass<L> {
 ///
 /// # Errors
 ///
-/// Want of memory. What the seats tell, the marks, and the sizes of the last rest stay then too.
+/// Out of memory. What the seats tell, the marks, and the sizes of the last rest stay then too.
 fn come_first<A: Kept>(
     alloc: Global,
     forest: &Forest<A>,
@@ -154,7 +152,7 @@ fn come_first<A: Kept>(
 ///
 /// # Errors
 ///
-/// Want of memory.
+/// Out of memory.
 fn take_first<A: Kept>(
     front: &mut Front,
     alloc: Global,
@@ -174,7 +172,7 @@ fn take_first<A: Kept>(
 ///
 /// # Errors
 ///
-/// The limit, or want of memory. The nodes stay then.
+/// The limit, or lack of memory. The nodes stay then.
 fn make_first_nodes<L: Ledger>(
     alloc: Global,
     forest: &mut Forest<KeptAnswer<L>>,
@@ -211,7 +209,7 @@ fn make_first_nodes<L: Ledger>(
 ///
 /// # Errors
 ///
-/// Want of memory. The nodes stay then.
+/// Out of memory. The nodes stay then.
 fn make_counted<L: Ledger>(
     alloc: Global,
     forest: &mut Forest<KeptAnswer<L>>,

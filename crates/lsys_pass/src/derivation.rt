@@ -9,9 +9,9 @@ ghost use Rattle.lsys_pass.specs.Views.{level_in, place_among, view_of, CountsAn
 use crate::pass::Pass;
 use crate::state::PassState;
 use lsys_forest::{Forest, NodeId};
-use lsys_kept::KeptAnswer;
 use lsys_level::{LevelView, Sight, Tag};
 use lsys_match::{Derivation, Steps};
+use lsys_reads::KeptAnswer;
 use lsys_rewrite::{DeriveRefusal, EditCount};
 use lsys_rules::System;
 use std::alloc::{AllocError, Global};
@@ -50,7 +50,7 @@ pub struct Held {
 }
 
 impl<L: Ledger> ForestDerivation<L> {
-    /// The pass in which the levels stand. It is at rest, also behind an edit that was refused, and keeps what the levels need
+    /// The pass in which the levels stand. It is at rest, also after an edit that was refused, and keeps what the levels need
     /// and nothing else: the nodes of the levels and the root, an answer to each of their questions, and the runs that these
     /// answers hold. In which runs the nodes' own lists stand, its forest tells ([`Forest::regions`]). It costs no step.
     ///

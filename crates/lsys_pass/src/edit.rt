@@ -24,7 +24,7 @@ impl<L: Ledger> Pass<L> {
     ///
     /// # Errors
     ///
-    /// Why the system has no levels under the limit, or want of memory. The pass is at rest then as before, at most as many
+    /// Why the system has no levels under the limit, or lack of memory. The pass is at rest then as before, at most as many
     /// questions were asked as the limit has symbols, and at most 1,025 entries were read for each.
     pub(crate) fn edit<V: Ledger>(
         &mut self,
@@ -67,7 +67,7 @@ impl<L: Ledger> Pass<L> {
     ///
     /// # Errors
     ///
-    /// Why the system has no levels under the limit, or want of memory. Only to abandon the pass is left.
+    /// Why the system has no levels under the limit, or lack of memory. Only to abandon the pass is left.
     fn make_levels<V: Ledger>(
         &mut self,
         alloc: Global,
@@ -99,7 +99,7 @@ impl<L: Ledger> Pass<L> {
     ///
     /// # Errors
     ///
-    /// Want of memory.
+    /// Out of memory.
     fn ask_pending<V: Ledger>(
         &mut self,
         alloc: Global,

@@ -11,21 +11,21 @@ ghost use Rattle.lsys_pass.specs.Fresh.{row_of, HasFound, Goes, IsLast};
 ghost use Rattle.lsys_pass.specs.Lasts.{AreEndedOn, DropsOn};
 
 use crate::pass::Pass;
+use lsys_children::list_level;
 use lsys_forest::{Forest, Kept, NodeId};
 use lsys_front::{Front, add_children, drop_below, end_level, law_of_forests};
 use lsys_level::Tag;
-use lsys_repair::list_level;
 use std::alloc::{AllocError, Global};
 use std::sync::ledger::Ledger;
 
 impl<L: Ledger> Pass<L> {
     /// Makes this level the last one: its nodes lose their answers and their children. Those that lose an answer are dropped,
-    /// and so are those behind the level that had one at the last rest. Where the last rest had no answers from this level on,
-    /// nothing is to be done; else it costs the nodes of the level, and those that were behind it.
+    /// and so are those after the level that had one at the last rest. Where the last rest had no answers from this level on,
+    /// nothing is to be done; else it costs the nodes of the level, and those that were after it.
     ///
     /// # Errors
     ///
-    /// Want of memory. The last rest stays then too.
+    /// Out of memory. The last rest stays then too.
     pub(crate) fn end_levels(&mut self, alloc: Global, level: u32) -> Result<(), AllocError>
         requires failed { self.old.state ≡ Failed }
         requires found { (beside : List ℕ) × (readers : List ℕ)
@@ -57,12 +57,12 @@ impl<L: Ledger> Pass<L> {
 }
 
 /// Makes this level of a forest the last one: its nodes lose their answers and their children. Those that lose an answer come
-/// behind `dropped`. Then come those that keep one among the nodes that were below the level, or are below those that are gone
+/// after `dropped`. Then come those that keep one among the nodes that were below the level, or are below those that are gone
 /// from it: of so many levels, as long as there are nodes.
 ///
 /// # Errors
 ///
-/// Want of memory, which may come between two nodes. The last rest stays then too, and no answer is new.
+/// Out of memory, which may come between two nodes. The last rest stays then too, and no answer is new.
 fn end_forest<A: Kept>(
     alloc: Global,
     forest: &mut Forest<A>,

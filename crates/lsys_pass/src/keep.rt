@@ -5,16 +5,15 @@ ghost use Rattle.lsys_walks.specs.Stores.{AreGone, AreLive, OtherTracesStay};
 ghost use Rattle.lsys_match.specs.Stored.{runs_of};
 ghost use Rattle.lsys_reads.specs.Relations.{SettledStay};
 ghost use Rattle.lsys_forest.specs.Groves.{now_of, IsLive};
-ghost use Rattle.lsys_kept.specs.Levels.{answer_at, tags_read};
+ghost use Rattle.lsys_reads.specs.Levels.{answer_at, tags_read};
 ghost use Rattle.lsys_pass.specs.Read.{AddsPairs};
 ghost use Rattle.lsys_pass.specs.Steps.{TakesAnswerAt};
 
 use crate::read::add_reads;
 use lsys_forest::{Forest, NodeId};
-use lsys_kept::KeptAnswer;
 use lsys_level::Tag;
 use lsys_match::{Answer, AnswerStore};
-use lsys_reads::Reads;
+use lsys_reads::{KeptAnswer, Reads};
 use lsys_rules::System;
 use std::alloc::AllocError;
 use std::sync::ledger::Ledger;
@@ -64,7 +63,7 @@ pub(crate) fn answer_of<L: Ledger>(
 ///
 /// # Errors
 ///
-/// Want of memory. The answer is released then, and nothing else changes.
+/// Out of memory. The answer is released then, and nothing else changes.
 pub(crate) fn keep<L: Ledger>(
     forest: &mut Forest<KeptAnswer<L>>,
     store: &mut AnswerStore,

@@ -2,9 +2,9 @@
 ghost use Rattle.std.specs.Prelude.{◌≡◌, ◌≤◌, ◌<◌, ◌+◌, ◌^◌, ◌++◌, ℕ, IfOk, OnOk};
 ghost use Rattle.lsys_spec.specs.Rows.{In};
 ghost use Rattle.lsys_forest.specs.Groves.{AreSound, IsLive, now_of, changes_in, live_nodes};
-ghost use Rattle.lsys_kept.specs.Seats.{HasSeat, SameSeats, SameMarks, KeepsSeats};
-ghost use Rattle.lsys_repair.specs.Parents.{nodes_in, HasParents};
-ghost use Rattle.lsys_repair.specs.Needs.{needs};
+ghost use Rattle.lsys_reads.specs.Seats.{HasSeat, SameSeats, SameMarks, KeepsSeats};
+ghost use Rattle.lsys_children.specs.Parents.{nodes_in, HasParents};
+ghost use Rattle.lsys_children.specs.Needs.{needs};
 ghost use Rattle.lsys_front.specs.Fronts.{StandOn};
 ghost use Rattle.lsys_front.specs.LooksFrom.{moved_in};
 ghost use Rattle.lsys_pass.specs.declared.state.PassState.TheVariants.{Failed};
@@ -22,14 +22,11 @@ use crate::pass::Pass;
 use crate::room::reserve_for;
 use crate::seating::make_seats;
 use crate::sizes::Sizes;
-use lsys_brood::{Brood, Changes, Need};
-use lsys_candidates::LevelRules;
+use lsys_children::{Brood, Changes, Need, Parent, Wanted, make_children};
 use lsys_forest::{Forest, Kept};
-use lsys_front::{Front, law_of_forests};
-use lsys_kept::{KeptAnswer, Seats};
-use lsys_repair::{Parent, make_children};
+use lsys_front::{Front, LevelRules, law_of_forests};
+use lsys_reads::{KeptAnswer, Seats};
 use lsys_rules::System;
-use lsys_wanted::Wanted;
 use std::alloc::{AllocError, Global};
 use std::sync::ledger::Ledger;
 
@@ -44,7 +41,7 @@ impl<L: Ledger> Pass<L> {
     ///
     /// # Errors
     ///
-    /// Want of memory. The last rest stays then too.
+    /// Out of memory. The last rest stays then too.
     pub(crate) fn make_level(
         &mut self,
         alloc: Global,
@@ -101,7 +98,7 @@ impl<L: Ledger> Pass<L> {
 ///
 /// # Errors
 ///
-/// Want of memory. The last rest, and who keeps which answer, stay then too.
+/// Out of memory. The last rest, and who keeps which answer, stay then too.
 fn make_below<L: Ledger>(
     alloc: Global,
     forest: &mut Forest<KeptAnswer<L>>,
@@ -130,7 +127,7 @@ fn make_below<L: Ledger>(
 ///
 /// # Errors
 ///
-/// Want of memory.
+/// Out of memory.
 fn next_front<L: Ledger>(
     alloc: Global,
     forest: &Forest<KeptAnswer<L>>,
@@ -151,7 +148,7 @@ fn next_front<L: Ledger>(
 ///
 /// # Errors
 ///
-/// Want of memory. What the seats tell, the marks, and the sizes of the last rest stay then too.
+/// Out of memory. What the seats tell, the marks, and the sizes of the last rest stay then too.
 fn come_below<A: Kept>(
     forest: &Forest<A>,
     next: Front,
@@ -180,7 +177,7 @@ fn come_below<A: Kept>(
 ///
 /// # Errors
 ///
-/// Want of memory.
+/// Out of memory.
 fn is_busy(
     alloc: Global,
     old: &System,
@@ -203,7 +200,7 @@ fn is_busy(
 ///
 /// # Errors
 ///
-/// Want of memory.
+/// Out of memory.
 fn have_same_rules(
     alloc: Global,
     old: &System,

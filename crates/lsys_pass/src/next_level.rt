@@ -17,12 +17,12 @@ use std::sync::ledger::Ledger;
 impl<L: Ledger> Pass<L> {
     /// Makes the next level, where all nodes of this one were asked: from what the answers that are kept put in their places.
     /// It costs steps by the nodes with other answers or other symbols, by who stands beside them and by who read them; it goes
-    /// along a whole level only where its rules, the seed or the lineages are others, a cut on it reaches what stands behind, it
+    /// along a whole level only where its rules, the seed or the lineages are others, a cut on it reaches what stands after, it
     /// was the last one or is, or so many of its nodes have other children that this costs no more.
     ///
     /// # Errors
     ///
-    /// The leftmost fault of the level, where it has one; else the limit, where the next level passes it, or want of memory. The
+    /// The leftmost fault of the level, where it has one; else the limit, where the next level passes it, or lack of memory. The
     /// pass has failed then: only to abandon it is left.
     pub fn finish_level(&mut self, alloc: Global) -> Result<(), DeriveRefusal>
         requires state { AtLevel self.old.state }
@@ -52,7 +52,7 @@ impl<L: Ledger> Pass<L> {
     ///
     /// # Errors
     ///
-    /// The limit, where the next level passes it; else want of memory. The last rest stays then too.
+    /// The limit, where the next level passes it; else lack of memory. The last rest stays then too.
     fn make_next(&mut self, alloc: Global, level: u32) -> Result<(), DeriveRefusal>
         requires failed { self.old.state ≡ Failed }
         requires asked { WasAsked self.old level }
@@ -83,7 +83,7 @@ impl<L: Ledger> Pass<L> {
     ///
     /// # Errors
     ///
-    /// Want of memory.
+    /// Out of memory.
     pub(crate) fn come_to(
         &mut self,
         alloc: Global,

@@ -7,9 +7,8 @@ ghost use Rattle.lsys_pass.specs.Steps.{IsLiveIfNew, KeepsOutcomeIn, KeepsNothin
 use crate::keep::keep;
 use crate::work::Work;
 use lsys_forest::{Forest, NodeId};
-use lsys_kept::KeptAnswer;
 use lsys_match::{AnswerStore, AskRefusal, Asked};
-use lsys_reads::Reads;
+use lsys_reads::{KeptAnswer, Reads};
 use std::alloc::AllocError;
 use std::sync::ledger::Ledger;
 
@@ -17,7 +16,7 @@ use std::sync::ledger::Ledger;
 ///
 /// # Errors
 ///
-/// Want of memory, here or in asking. A new answer is released then, and nothing is kept.
+/// Out of memory, here or in asking. A new answer is released then, and nothing is kept.
 pub(crate) fn keep_outcome<L: Ledger>(
     forest: &mut Forest<KeptAnswer<L>>,
     store: &mut AnswerStore,

@@ -1,8 +1,8 @@
 //! The parents whose children are made.
 ghost use Rattle.std.specs.Prelude.{◌≡◌, ◌↔◌, ◌<◌, ℕ, true, false, map, None, IfOk, IfSome};
 ghost use Rattle.lsys_spec.specs.Rows.{In, AreApart};
-ghost use Rattle.lsys_repair.specs.Parents.{uncut};
-ghost use Rattle.lsys_kept.specs.Seats.{SameSeats, KeepsSeats};
+ghost use Rattle.lsys_children.specs.Parents.{uncut};
+ghost use Rattle.lsys_reads.specs.Seats.{SameSeats, KeepsSeats};
 ghost use Rattle.lsys_pass.specs.declared.state.PassState.TheVariants.{Failed};
 ghost use Rattle.lsys_pass.specs.Sizes.{with_open};
 ghost use Rattle.lsys_pass.specs.Fresh.{WasAsked, IsChanged, IsMadeAlike, AreNextParents, AreWalkedOrAlone, IsClosedUnless};
@@ -10,15 +10,15 @@ ghost use Rattle.lsys_pass.specs.NextParents.{AreWholeOrAlone};
 
 use crate::keep::target;
 use crate::pass::Pass;
+use lsys_children::{Parent, list_level, walk_parents};
 use lsys_forest::NodeId;
 use lsys_front::any_opens;
 use lsys_reading::Lineage;
-use lsys_repair::{Parent, list_level, walk_parents};
 use std::alloc::{AllocError, Global};
 use std::sync::ledger::Ledger;
 
 /// Parents of the next level: all nodes of a level, as a walk told them, or those alone whose children may be others; and whether
-/// a cut on the level reaches what stands behind it.
+/// a cut on the level reaches what stands after it.
 #[derive(Drop)]
 pub(crate) struct Parents {
     pub(crate) list: Vec<Parent>,
@@ -28,11 +28,11 @@ pub(crate) struct Parents {
 
 impl<L: Ledger> Pass<L> {
     /// Finds the parents whose children may be others: those that the front tells. Or it goes along the level, where a cut on it
-    /// reached what stands behind it, or reaches it now, where it was the last one, or keys or lineages are others.
+    /// reached what stands after it, or reaches it now, where it was the last one, or keys or lineages are others.
     ///
     /// # Errors
     ///
-    /// Want of memory.
+    /// Out of memory.
     pub(crate) fn find_parents(&mut self, alloc: Global, level: u32) -> Result<Parents, AllocError>
         requires failed { self.old.state ≡ Failed }
         requires asked { WasAsked self.old level }
@@ -88,7 +88,7 @@ impl<L: Ledger> Pass<L> {
         Ok(nodes)
     }
 
-    /// They are the parents, where no cut among what replaces one of them reaches what stands behind it.
+    /// They are the parents, where no cut among what replaces one of them reaches what stands after it.
     fn found_parents(
         &self,
         alloc: Global,
@@ -132,7 +132,7 @@ impl<L: Ledger> Pass<L> {
     }
 
     /// Whether any child below the level may be another: it was the last level, keys or lineages are others, or a cut on it
-    /// reached what stood behind it.
+    /// reached what stood after it.
     fn is_other_level(&self, level: u32) -> bool
         ensures { result ≡ false → IsMadeAlike self.now level }
     {

@@ -1,6 +1,6 @@
 //! The pass.
 ghost use Rattle.std.specs.Prelude.{◌≡◌, ◌+◌, ◌-◌, ◌<◌, ◌≢◌, [], ℕ, false, length, slice_get, Some, MatchOption, IfOk, OnOk, OnErr};
-ghost use Rattle.lsys_kept.specs.Seats.{HasSeat, is_marked};
+ghost use Rattle.lsys_reads.specs.Seats.{HasSeat, is_marked};
 ghost use Rattle.lsys_spec.specs.Rows.{In};
 ghost use Rattle.lsys_spec.specs.Systems.{opening};
 ghost use Rattle.lsys_spec.specs.Questions.{questions};
@@ -21,14 +21,12 @@ use crate::seating::seat_all;
 use crate::sizes::Sizes;
 use crate::state::PassState;
 use crate::work::Work;
-use lsys_brood::Brood;
+use lsys_children::{Brood, Wanted};
 use lsys_forest::{Forest, NodeId};
-use lsys_kept::{KeptAnswer, Seats};
 use lsys_match::{AnswerStore, Steps, ask};
-use lsys_reads::Reads;
+use lsys_reads::{KeptAnswer, Reads, Seats};
 use lsys_rewrite::{DeriveRefusal, EditCount};
 use lsys_rules::System;
-use lsys_wanted::Wanted;
 use std::alloc::{AllocError, Global};
 use std::marker::Model;
 use std::sync::ledger::Ledger;
@@ -113,7 +111,7 @@ impl<L: Ledger> Pass<L> {
     ///
     /// # Errors
     ///
-    /// Want of memory.
+    /// Out of memory.
     pub fn new(alloc: Global, limit: u32) -> Result<Pass<L>, AllocError>
         ensures state { IfOk result (λ p. p.state ≡ Rest) }
         ensures system { IfOk result (λ p. p.system ≡ opening) }
@@ -188,7 +186,7 @@ impl<L: Ledger> Pass<L> {
     ///
     /// # Errors
     ///
-    /// Want of memory. The node stays pending, with the answer that it had.
+    /// Out of memory. The node stays pending, with the answer that it had.
     pub fn step<V: Ledger>(
         &mut self,
         alloc: Global,
@@ -284,7 +282,7 @@ impl<L: Ledger> Pass<L> {
 ///
 /// # Errors
 ///
-/// Want of memory.
+/// Out of memory.
 fn grown<L: Ledger>(alloc: Global) -> Result<(Forest<KeptAnswer<L>>, Seats), AllocError>
     ensures { IfOk result (λ p. IsGrown p.0 p.1) }
 {
@@ -297,7 +295,7 @@ fn grown<L: Ledger>(alloc: Global) -> Result<(Forest<KeptAnswer<L>>, Seats), All
 ///
 /// # Errors
 ///
-/// Want of memory.
+/// Out of memory.
 fn seat_alone(alloc: Global, node: NodeId) -> Result<Seats, AllocError>
     ensures clear { IfOk result (λ seats. (k : ℕ) → is_marked seats k ≡ false) }
     ensures seat { IfOk result (λ seats. HasSeat seats node) }

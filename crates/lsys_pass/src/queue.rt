@@ -19,7 +19,7 @@ struct Slot {
 
 /// Nodes in order, from which the first is taken off at the cost of a step, and any at that of a logarithm. Before one is taken off
 /// that isn't the first, each gets a slot, at the cost of a step: each slot is in the middle of a part, and those before it and those
-/// behind it are parts again.
+/// after it are parts again.
 #[derive(Drop)]
 pub(crate) struct Queue {
     /// The nodes, as long as they have no slots.
@@ -67,7 +67,7 @@ impl Queue {
     ///
     /// # Errors
     ///
-    /// Want of memory. The others stay.
+    /// Out of memory. The others stay.
     pub(crate) fn set(&mut self, nodes: Vec<NodeId>) -> Result<(), AllocError>
         ensures ok { OnOk result (self.new ≡ nodes.items) }
         ensures err { OnErr result (self.new ≡ self.old) }

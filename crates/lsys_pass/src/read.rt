@@ -14,7 +14,7 @@ use std::alloc::AllocError;
 ///
 /// # Errors
 ///
-/// Want of memory. Both relations stay then.
+/// Out of memory. Both relations stay then.
 pub(crate) fn add_reads(reads: &mut Reads, reader: Tag, entries: &[Entry]) -> Result<(), AllocError>
     ensures settled { SettledStay reads.old reads.new }
     ensures ok { OnOk result (AddsPairs reads.old reads.new reader (entries_tags entries.now)) }
@@ -58,7 +58,7 @@ fn settle_listed(reads: &mut Reads, renewed: &[Tag], dropped: &[Tag])
     reads.settle(renewed);
 }
 
-/// Adds them one by one; for want of memory only some.
+/// Adds them one by one; for lack of memory only some.
 fn add_entries(reads: &mut Reads, reader: Tag, entries: &[Entry]) -> Result<(), AllocError>
     ensures settled { SettledStay reads.old reads.new }
     ensures behind { ComesBehind reads.old.pending reads.new.pending }

@@ -6,7 +6,7 @@ ghost use Rattle.lsys_pass.specs.Sizes.{total_of};
 use crate::pass::Pass;
 use crate::sizes::room_under;
 use lsys_forest::Forest;
-use lsys_kept::KeptAnswer;
+use lsys_reads::KeptAnswer;
 use lsys_rules::System;
 use std::sync::ledger::Ledger;
 

@@ -1,10 +1,10 @@
 //! Room for the steps from one level to the next.
 ghost use Rattle.std.specs.Prelude.{◌≡◌, ◌+◌, ◌<◌, ◌^◌, OnOk};
 ghost use Rattle.lsys_forest.specs.Groves.{live_nodes};
-ghost use Rattle.lsys_brood.specs.Children.{HasRoomFor};
+ghost use Rattle.lsys_children.specs.Children.{HasRoomFor};
 ghost use Rattle.lsys_pass.specs.Beginnings.{KeepsNodes};
 
-use lsys_brood::{Changes, Need};
+use lsys_children::{Changes, Need};
 use lsys_forest::{Forest, Kept};
 use std::alloc::AllocError;
 
@@ -15,7 +15,7 @@ const MOST_NODES: usize = 1 << 32;
 ///
 /// # Errors
 ///
-/// Want of memory, also of numbers below 2^32.
+/// Out of memory, also of numbers below 2^32.
 pub(crate) fn reserve_for<A: Kept>(
     forest: &mut Forest<A>,
     told: &mut Changes,

@@ -2,12 +2,12 @@
 ghost use Rattle.std.specs.Prelude.{◌≡◌, ℕ, OnOk};
 ghost use Rattle.lsys_spec.specs.Rows.{In};
 ghost use Rattle.lsys_forest.specs.Groves.{IsLive};
-ghost use Rattle.lsys_kept.specs.Neighbours.{neighbours_in, IsOnLevel};
-ghost use Rattle.lsys_kept.specs.Seats.{neighbours_at, HasSeat, SameSeats, SameMarks, KeepsSeats};
+ghost use Rattle.lsys_reads.specs.Neighbours.{neighbours_in, IsOnLevel};
+ghost use Rattle.lsys_reads.specs.Seats.{neighbours_at, HasSeat, SameSeats, SameMarks, KeepsSeats};
 ghost use Rattle.lsys_pass.specs.SeatedAnew.{KeepsOtherSeats};
 
 use lsys_forest::{Forest, Kept, NodeId};
-use lsys_kept::Seats;
+use lsys_reads::Seats;
 use std::alloc::AllocError;
 
 /// Sets the seats of these nodes: each tells who is beside its node now. It takes no memory.
@@ -30,7 +30,7 @@ pub(crate) fn seat_all<A: Kept>(seats: &mut Seats, forest: &Forest<A>, nodes: &[
 ///
 /// # Errors
 ///
-/// Want of memory. What the seats tell, and the marks, stay then too.
+/// Out of memory. What the seats tell, and the marks, stay then too.
 pub(crate) fn make_seats<A: Kept>(seats: &mut Seats, forest: &Forest<A>) -> Result<(), AllocError>
     ensures seats { SameSeats seats.old seats.new }
     ensures marks { SameMarks seats.old seats.new }

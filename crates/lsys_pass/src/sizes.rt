@@ -6,7 +6,7 @@ use crate::keep::push_in_room;
 use std::alloc::{AllocError, Global};
 use std::mem::swap;
 
-/// Of a level: how many symbols it has, and whether a cut among what replaces one of them reaches what stands behind it.
+/// Of a level: how many symbols it has, and whether a cut among what replaces one of them reaches what stands after it.
 #[derive(Clone, Copy, Drop)]
 pub struct Size {
     pub symbols: usize,
@@ -55,7 +55,7 @@ impl Sizes {
         symbols_at(&self.made, level)
     }
 
-    /// Whether a cut on a level reached what stands behind it at the last rest; where the level was not there, none did.
+    /// Whether a cut on a level reached what stands after it at the last rest; where the level was not there, none did.
     pub(crate) fn was_open(&self, level: u32) -> bool
         ensures { result ≡ opens_at self.now.rest.items level }
     {
@@ -65,7 +65,7 @@ impl Sizes {
         }
     }
 
-    /// Tells of the level that was made last whether a cut on it reaches what stands behind it. It takes no memory.
+    /// Tells of the level that was made last whether a cut on it reaches what stands after it. It takes no memory.
     pub(crate) fn tell_open(&mut self, is_open: bool)
         ensures rest { self.new.rest.items ≡ self.old.rest.items }
         ensures made { self.new.made.items ≡ with_open self.old.made.items is_open }
@@ -77,7 +77,7 @@ impl Sizes {
     ///
     /// # Errors
     ///
-    /// Want of memory. The sizes stay then.
+    /// Out of memory. The sizes stay then.
     pub(crate) fn add(&mut self, symbols: usize) -> Result<(), AllocError>
         ensures rest { self.new.rest.items ≡ self.old.rest.items }
         ensures made { OnOk result (self.new.made.items ≡ with_level self.old.made.items symbols) }

@@ -12,9 +12,8 @@ use crate::keep::target;
 use crate::parents::Parents;
 use crate::pass::Pass;
 use crate::sizes::room_under;
-use lsys_brood::Need;
+use lsys_children::{Count, Need, count_children};
 use lsys_front::count_kids;
-use lsys_repair::{Count, count_children};
 use lsys_rewrite::DeriveRefusal;
 use std::alloc::AllocError;
 use std::sync::ledger::Ledger;
@@ -32,7 +31,7 @@ impl<L: Ledger> Pass<L> {
     ///
     /// # Errors
     ///
-    /// Want of memory.
+    /// Out of memory.
     pub(crate) fn count_next(
         &mut self,
         level: u32,

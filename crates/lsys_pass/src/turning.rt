@@ -2,8 +2,8 @@
 ghost use Rattle.std.specs.Prelude.{◌≡◌, ◌<◌, ◌^◌, ◌++◌, ℕ, false, length, IfOk, OnOk};
 ghost use Rattle.lsys_spec.specs.Rows.{In};
 ghost use Rattle.lsys_forest.specs.Groves.{IsLive};
-ghost use Rattle.lsys_kept.specs.Seats.{is_marked, SameSeats, KeepsSeats};
-ghost use Rattle.lsys_candidates.specs.Found.{AreOnLevels, HasSeatsForFound};
+ghost use Rattle.lsys_reads.specs.Seats.{is_marked, SameSeats, KeepsSeats};
+ghost use Rattle.lsys_front.specs.Found.{AreOnLevels, HasSeatsForFound};
 ghost use Rattle.lsys_front.specs.LooksFrom.{moved_in};
 ghost use Rattle.lsys_pass.specs.declared.state.PassState.TheVariants.{Failed};
 ghost use Rattle.lsys_pass.specs.Passes.{stage_of};
@@ -14,8 +14,7 @@ use crate::pass::Pass;
 use crate::work::Work;
 use lsys_forest::{Forest, Kept, NodeId};
 use lsys_front::{Found, Front, add_answered};
-use lsys_kept::Seats;
-use lsys_reads::Reads;
+use lsys_reads::{Reads, Seats};
 use std::alloc::{AllocError, Global};
 use std::sync::ledger::Ledger;
 
@@ -28,7 +27,7 @@ impl<L: Ledger> Pass<L> {
     ///
     /// # Errors
     ///
-    /// Want of memory. The last rest stays.
+    /// Out of memory. The last rest stays.
     pub(crate) fn find_turned(&mut self, alloc: Global) -> Result<Found, AllocError>
         requires failed { self.old.state ≡ Failed }
         requires fresh { (t : ℕ) × (t < 2 ^ 32) × WasJustMade self.old t }
@@ -45,11 +44,11 @@ impl<L: Ledger> Pass<L> {
 
 impl Work {
     /// Finds the nodes of the level that turned. They and those that came moved, and those that are gone and keep an answer are
-    /// dropped; the nodes of this level begin where those with another answer end. No node is marked before or behind.
+    /// dropped; the nodes of this level begin where those with another answer end. No node is marked before or after.
     ///
     /// # Errors
     ///
-    /// Want of memory. The seats tell what they told.
+    /// Out of memory. The seats tell what they told.
     fn note_turned<A: Kept>(
         &mut self,
         alloc: Global,
@@ -87,7 +86,7 @@ impl Work {
 ///
 /// # Errors
 ///
-/// Want of memory.
+/// Out of memory.
 fn add_moved(moved: &mut Vec<NodeId>, front: &Front) -> Result<(), AllocError>
     ensures { OnOk result (moved.new.items ≡ moved.old.items ++ moved_in front.now) }
 {

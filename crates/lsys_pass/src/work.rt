@@ -12,7 +12,7 @@ use lsys_rewrite::FaultKind;
 use std::alloc::{AllocError, Global};
 
 /// The lists of a pass: the nodes that are still to be asked; those that have a fault; those with another answer than at the
-/// last rest, how many of them had none then, and where those of the level begin, behind those of the levels above it; those that
+/// last rest, how many of them had none then, and where those of the level begin, after those of the levels above it; those that
 /// had an answer and have none any more; those that moved; and what differs on the level.
 #[derive(Drop)]
 pub(crate) struct Work {
@@ -47,7 +47,7 @@ impl Work {
     ///
     /// # Errors
     ///
-    /// Want of memory.
+    /// Out of memory.
     pub(crate) fn reserve(&mut self) -> Result<(), AllocError>
         ensures faults { self.new.faults.items ≡ self.old.faults.items }
         ensures renewed { self.new.renewed.items ≡ self.old.renewed.items }

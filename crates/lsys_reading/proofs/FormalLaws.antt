@@ -1,4 +1,4 @@
--- Formals: one, and what stands behind it; and the loop over them.
+-- Formals: one, and what stands after it; and the loop over them.
 use Rattle.std.proofs.Common.{◌≡◌, ◌≤◌, ◌+◌, ℕ, Ok, Err, List, [], ◌∷◌, ◌++◌, length, map, ap, sym, subst, ◌∙◌}
 use Rattle.lsys_syntax.specs.Tokens.{NameText, Kind}
 use Rattle.lsys_syntax.specs.Strings.{ModuleName, plus, Symbol, Module}

@@ -1,4 +1,4 @@
--- What stands behind symbols with formals: which part of a rule they are.
+-- What stands after symbols with formals: which part of a rule they are.
 use Rattle.std.proofs.Common.{◌≡◌, ◌⊎◌, inl, inr, arith, ◌<◌, ◌+◌, ℕ, zero, suc, Bool, true, false, Some, None, List, [], ◌∷◌, drop, map, refl, ap, sym, subst, ◌∙◌}
 use Rattle.lsys_syntax.specs.Tokens.{NameText, Kind, Less, Greater, Colon, At, Arrow}
 use Rattle.lsys_syntax.specs.Strings.{ModuleName, named, plus, minus, ampersand, caret, backslash, slash, bar, bang, name_kind, Symbol, Module, Push, Pop, Cut}
@@ -20,7 +20,7 @@ use Rattle.lsys_syntax.proofs.RulePoints.{leads-token}
 use Rattle.lsys_reading.proofs.PatternLoops.{first-is}
 use Rattle.lsys_reading.proofs.Reversals.{reversed-twice, nil-append}
 
--- 1. behind symbols that are a head, or none
+-- 1. after symbols that are a head, or none
 
 -- a `<` there leads nowhere
 abbrev pub NoLess : machine.Form → List Kind → ℕ → Part → List (Symbol NameText) → Type 0

@@ -63,7 +63,7 @@ pub params-refused : (ks : List Kind) (at end : ℕ) (ss : List Span) (q : PartR
 params-refused ks at end ss q so one = λ m b r n.
     refuses-on m ks at end (at_state (param_due b r n [])) (at_state (param_due b r n (reversed (params_at ks ss)))) q (so.read m b r n) (one m b r n (reversed (params_at ks ss)))
 
--- 3. a module behind its name
+-- 3. a module after its name
 
 pub image-shut : (m : machine.Form) (ks : List Kind) (at : ℕ) (b : Premise) (r : List (Symbol Expr)) → successor_open b r ≡ Stop → verdict_at m ks at (at_state (Successor b r)) ≡ verdict_at m ks at (after_image b r)
 image-shut m ks at b r e = by (drop at ks)

@@ -15,7 +15,7 @@ use Rattle.lsys_reading.proofs.Reversals.{reversed-push, reversed-twice, nil-app
 
 -- 1. one token, and the end
 
--- behind a token that leads to the state t, where the rest is ks
+-- after a token that leads to the state t, where the rest is ks
 abbrev tested : ℕ → List Kind → State → Verdict
 tested n ks t = elim (is_stop t) [ true ↦ stops n | false ↦ elim (nat_lt nesting_bound (line_depth t)) [ true ↦ too_deep n | false ↦ verdict_from (n + 1) t ks ] ]
 
@@ -47,7 +47,7 @@ module _ (ks : List Kind) (at : ℕ) (s : State) where
       by [] d j = absurd (omega (arith, w, none-left at ks d))
       by (k ∷ rest) d j = ap (tested at rest) (g k j)
 
--- 2. what is refused behind a part
+-- 2. what is refused after a part
 
 pub refused-on : (ks : List Kind) (a b : ℕ) (s t : State) (e : PartRefusal) → line_at ks a s ≡ line_at ks b t → IsRefused ks b t e → IsRefused ks a s e
 refused-on ks a b s t (Token place) h i = h ∙ i

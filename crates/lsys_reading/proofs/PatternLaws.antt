@@ -1,4 +1,4 @@
--- Symbols with formals: one, and what stands behind it.
+-- Symbols with formals: one, and what stands after it.
 use Rattle.std.proofs.Common.{◌≡◌, ◌+◌, ◌&&◌, ℕ, zero, suc, Bool, true, false, nat_lt, Some, None, List, [], ◌∷◌, drop, refl, ap, sym, ◌∙◌, arith}
 use Rattle.std.proofs.lemmas.Bool.Decides.{nat_tests}
 use Rattle.lsys_syntax.specs.Tokens.{NameText, Kind, Word, LongWord, Number, BigNumber, Equal, Unequal, AtMost, AtLeast, Times, Assign, LeftParen}
@@ -55,7 +55,7 @@ shut m ks at p r e = by (drop at ks)
     by (LeftParen ∷ rest) = ap (λ s. taken at s (rule_from m (at + 1) s rest)) e
     by (k ∷ rest) = refl
 
--- a parenthesis behind a name
+-- a parenthesis after a name
 pub opens : (m : Form) (ks : List Kind) (at : ℕ) (p : Part) (r : List (Symbol NameText)) (n : ModuleName) (g : Glyph) → IsPeeked ks at g → is_opening g ≡ true
     → Leads m ks at (at_state (Formals p (Module n [] ∷ r))) (at + 1) (at_state (FormalDue p r n []))
 opens m ks at p r n glyphs.Open h e = leads-token m ks at h.0 (at_state (Formals p (Module n [] ∷ r))) h.1 (FormalDue p r n []) (ap (λ k. formals_step m k p (Module n [] ∷ r)) h.2) (λ i v. refl)

@@ -1,4 +1,4 @@
--- A module behind its name, a symbol, and the loop over symbols.
+-- A module after its name, a symbol, and the loop over symbols.
 use Rattle.std.proofs.Common.{◌≡◌, ◌≤◌, ◌<◌, ◌+◌, ℕ, Bool, true, false, Some, None, Ok, Err, List, [], ◌∷◌, ◌++◌, length, map, refl, ap, sym, subst, ◌∙◌, arith}
 use Rattle.std.specs.Prelude.{◌==◌, suc}
 use Rattle.std.proofs.lemmas.Bool.Decides.{nat_tests}

@@ -20,7 +20,7 @@ use Rattle.lsys_reading.specs.RuleLines.{rule_at, IsRuleRead, IsLineRead}
 use Rattle.lsys_syntax.proofs.RulePoints.{state-point, line-rule, leads-on}
 use Rattle.lsys_reading.proofs.ReadLaws.{refuses-on}
 
--- 1. each part behind those before it
+-- 1. each part after those before it
 
 module _ (f : Form) (ks : List Kind) (at : ℕ) (h : HeadRead) (i : IsHeadRead f ks at (Ok h)) where
   pub refused-condition : (q : PartRefusal) → IsConditionRead ks h.end (Err q) → Refuses (form_in f) ks at (at_state start) q

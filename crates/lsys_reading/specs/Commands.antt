@@ -35,7 +35,7 @@ abbrev pub string_in : Verdict → List (Symbol Signed)
 string_in (sentence (spec.set_axiom xs)) = xs
 string_in v = []
 
--- how an axiom's tokens behind the first read
+-- how an axiom's tokens after the first read
 abbrev pub axiom_reading : List Kind → Verdict
 axiom_reading ks = line_at ks 1 (InAxiom (Symbols []))
 
@@ -60,11 +60,11 @@ parts_command ks (Own o) = spec.set_own (list_kind_of o.kind) o.table (map modul
 parts_command ks (Common t) = spec.drop_own t
 parts_command ks (Lineage g) = spec.set_numbering (numbering_of g)
 
--- Behind the word of a line, where the reading is in this state, stand the parts of a command.
+-- After the word of a line, where the reading is in this state, stand the parts of a command.
 abbrev pub IsCommandRest : List Kind → State → Result Parts PartRefusal → Type 0
 IsCommandRest ks s result = IsRest ks 1 s (parts_command ks) result
 
--- Behind the word of a command that is this word alone the line ends.
+-- After the word of a command that is this word alone the line ends.
 abbrev pub IsCommandEnd : List Kind → Parts → Result Parts PartRefusal → Type 0
 IsCommandEnd ks parts result = IsCommandRest ks (Whole (parts_command ks parts)) result
 

@@ -14,7 +14,7 @@ abbrev pub colon_in : Kind → Option (Unit {0})
 colon_in Colon = Some tt
 colon_in k = None
 
--- a colon stands there, and the place is the one behind it; or none does
+-- a colon stands there, and the place is the one after it; or none does
 abbrev pub IsColon : List Kind → ℕ → Result ℕ PartRefusal → Type 0
 IsColon ks at (Ok end) = Here ks at Colon × (end ≡ at + 1)
 IsColon ks at (Err (Token place)) = (place ≡ at) × (at_front colon_in (drop at ks) ≡ None)
@@ -26,6 +26,6 @@ production_behind h = InProduction h.table h.label start
 abbrev pub homomorphism_behind : Heading → State
 homomorphism_behind h = InHomomorphism h.label start
 
--- a table and a colon, behind the word of either kind of list
+-- a table and a colon, after the word of either kind of list
 abbrev pub IsTableHeading : List Kind → Result (List ℕ) PartRefusal → Type 0
 IsTableHeading ks result = (k : ListKind) → IsPart ks 1 (TableDue k) (λ t. 3) (λ t. InNames (of_own k t) []) result

@@ -101,7 +101,7 @@ abbrev pub IsImageRead : Form → ℕ → List Kind → ℕ → Result ImageRead
 IsImageRead f branches ks at result = (b : Premise) (r : List (S.Symbol Expr)) → branches ≡ open_in r
     → IsRead (form_in f) ks at (after_image b r) (λ x. x.end) (λ x. after_image b (image_at ks x.symbol ∷ r)) result
 
--- the rule is whole behind the symbols, which reach to the line's end; or it is refused
+-- the rule is whole after the symbols, which reach to the line's end; or it is refused
 abbrev pub IsSuccessorRead : Form → List Kind → ℕ → Result (Vec Image Global) PartRefusal → Type 0
 IsSuccessorRead f ks at (Ok xs) = (b : Premise) → verdict_at (form_in f) ks at (at_state (Successor b [])) ≡ whole (rule_with b (images_at ks xs.items))
 IsSuccessorRead f ks at (Err e) = (b : Premise) → Refuses (form_in f) ks at (at_state (Successor b [])) e

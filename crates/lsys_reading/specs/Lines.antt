@@ -15,13 +15,13 @@ use Rattle.lsys_reading.specs.declared.refusal.PartRefusal.TheVariants.{Token, D
 abbrev pub line_at : List Kind → ℕ → State → Verdict
 line_at ks at s = verdict_from at s (drop at ks)
 
--- the line is refused there; want of memory says nothing
+-- the line is refused there; lack of memory says nothing
 abbrev pub IsRefused : List Kind → ℕ → State → PartRefusal → Type 0
 IsRefused ks at s (Token place) = line_at ks at s ≡ stops place
 IsRefused ks at s (Deep place) = line_at ks at s ≡ too_deep place
 IsRefused ks at s Memory = Unit {0}
 
--- A part of a line, read from place at and the state s on: where it ends, and the state behind it.
+-- A part of a line, read from place at and the state s on: where it ends, and the state after it.
 abbrev pub IsPart : {A : Type 0} → List Kind → ℕ → State → (A → ℕ) → (A → State) → Result A PartRefusal → Type 0
 IsPart ks at s end q (Ok a) = line_at ks at s ≡ line_at ks (end a) (q a)
 IsPart ks at s end q (Err e) = IsRefused ks at s e

@@ -73,7 +73,7 @@ abbrev pub is_empty : {A : Type 0} → List A → Bool
 is_empty [] = true
 is_empty (x ∷ xs) = false
 
--- where the next symbol stands, behind those of r
+-- where the next symbol stands, after those of r
 abbrev pub IsStanding : Standing → Form → Part → List (S.Symbol NameText) → Type 0
 IsStanding st m p r = IsSection st.section m p × (st.is_first ≡ is_empty r) × (st.branches ≡ open_in r)
 
@@ -99,6 +99,6 @@ abbrev pub ArePatternsRead : Section → List Kind → ℕ → Result PatternsRe
 ArePatternsRead s ks at result = (m : Form) (p : Part) → IsSection s m p
     → IsRead m ks at (at_state (Formals p [])) (λ x. x.end) (λ x. after_symbols p (so_far x.symbols.items)) result
 
--- so many branches are told as are open behind the symbols that were read
+-- so many branches are told as are open after the symbols that were read
 abbrev pub CountsBranches : PatternsRead → Type 0
 CountsBranches x = x.branches ≡ open_in (reversed (map symbol_read x.symbols.items))

@@ -12,13 +12,13 @@ use Rattle.lsys_reading.specs.declared.glyph.Separator.TheVariants as separators
 use Rattle.lsys_reading.specs.declared.formals.FormalRead.{FormalRead}
 use Rattle.lsys_reading.specs.declared.formals.FormalsRead.{FormalsRead}
 
--- the rule is refused there; want of memory says nothing
+-- the rule is refused there; lack of memory says nothing
 abbrev pub Refuses : Form → List Kind → ℕ → Point → PartRefusal → Type 0
 Refuses m ks at p (Token place) = verdict_at m ks at p ≡ stops place
 Refuses m ks at p (Deep place) = verdict_at m ks at p ≡ too_deep place
 Refuses m ks at p Memory = Unit {0}
 
--- A part read from place at and point p on: where it ends, and the point behind it.
+-- A part read from place at and point p on: where it ends, and the point after it.
 abbrev pub IsRead : {A : Type 0} → Form → List Kind → ℕ → Point → (A → ℕ) → (A → Point) → Result A PartRefusal → Type 0
 IsRead m ks at p end q (Ok a) = Leads m ks at p (end a) (q a)
 IsRead m ks at p end q (Err e) = Refuses m ks at p e

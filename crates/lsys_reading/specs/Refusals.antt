@@ -11,7 +11,7 @@ abbrev pub refusal_at : PlaceRefusal → PartRefusal
 refusal_at (places.Token place) = Token place
 refusal_at (places.Deep place) = Deep place
 
--- the same, by columns; the column of a place is that of its token, and behind the last one that of the line's end
+-- the same, by columns; the column of a place is that of its token, and after the last one that of the line's end
 abbrev pub refusal_in : (ℕ → ℕ) → PartRefusal → Refusal
 refusal_in column (Token place) = refusals.Token (column place)
 refusal_in column (Deep place) = refusals.Deep (column place)

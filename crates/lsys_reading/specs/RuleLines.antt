@@ -29,6 +29,6 @@ abbrev pub IsRuleRead : Form → List Kind → ℕ → Result RuleLine PartRefus
 IsRuleRead f ks at (Ok r) = verdict_at (form_in f) ks at (at_state start) ≡ whole (rule_at ks r)
 IsRuleRead f ks at (Err e) = Refuses (form_in f) ks at (at_state start) e
 
--- The rest of a line from its rule on, behind the colon, whatever the line's table and label are.
+-- The rest of a line from its rule on, after the colon, whatever the line's table and label are.
 abbrev pub IsLineRead : Form → List Kind → ℕ → Result RuleLine PartRefusal → Type 0
 IsLineRead f ks at result = (g : Line) → form_of g ≡ form_in f → IsRest ks at (line_state g start) (λ r. line_command g (rule_at ks r)) result

@@ -1,4 +1,4 @@
-//! The rest of each command behind its word.
+//! The rest of each command after its word.
 ghost use Rattle.std.specs.Prelude.{◌≡◌, ◌≤◌, [], IfOk};
 ghost use Rattle.lsys_syntax.specs.LineMachine.{of_ignored, VersionDue, TableDue, CommonDue, NumberingDue, InAxiom, Symbols, ProductionDue, DropDue, SeedDue, DepthDue, InNames, ScheduleDue, LatticeDue, LabelDue, StringRead, Fresh};
 ghost use Rattle.lsys_reading.specs.Tokens.{kinds_in, size};
@@ -38,7 +38,7 @@ fn command(line: &LineTokens) -> Result<CommandWord, PartRefusal>
     }
 }
 
-// What stands behind this word.
+// What stands after this word.
 fn parts_behind(alloc: Global, line: &LineTokens, word: CommandWord) -> Result<Parts, PartRefusal>
     requires { 1 ≤ size line.now }
     ensures rest { IsCommandRest (kinds_in line.now) (word_state word) result }
@@ -67,7 +67,7 @@ fn parts_behind(alloc: Global, line: &LineTokens, word: CommandWord) -> Result<P
     }
 }
 
-// Behind `axiom`: a string, whose parameters are numbers.
+// After `axiom`: a string, whose parameters are numbers.
 fn axiom(line: &LineTokens) -> Result<Parts, PartRefusal>
     requires { 1 ≤ size line.now }
     ensures rest { IsCommandRest (kinds_in line.now) (InAxiom (Symbols [])) result }
@@ -79,7 +79,7 @@ fn axiom(line: &LineTokens) -> Result<Parts, PartRefusal>
     }
 }
 
-// Behind `production`: a table, where it is written, a label, a colon and a rule.
+// After `production`: a table, where it is written, a label, a colon and a rule.
 fn production(alloc: Global, line: &LineTokens) -> Result<Parts, PartRefusal>
     ensures rest { IsCommandRest (kinds_in line.now) ProductionDue result }
     ensures parts { IfOk result (AreParts (kinds_in line.now)) }
@@ -93,7 +93,7 @@ fn production(alloc: Global, line: &LineTokens) -> Result<Parts, PartRefusal>
     }))
 }
 
-// Behind `hom`: a label, a colon and a rule.
+// After `hom`: a label, a colon and a rule.
 fn homomorphism(alloc: Global, line: &LineTokens) -> Result<Parts, PartRefusal>
     ensures rest { IsCommandRest (kinds_in line.now) LabelDue result }
     ensures parts { IfOk result (AreParts (kinds_in line.now)) }
@@ -107,7 +107,7 @@ fn homomorphism(alloc: Global, line: &LineTokens) -> Result<Parts, PartRefusal>
     }))
 }
 
-// Behind `drop`: a label.
+// After `drop`: a label.
 fn drop(line: &LineTokens) -> Result<Parts, PartRefusal>
     ensures rest { IsCommandRest (kinds_in line.now) DropDue result }
     ensures parts { IfOk result (AreParts (kinds_in line.now)) }
@@ -115,7 +115,7 @@ fn drop(line: &LineTokens) -> Result<Parts, PartRefusal>
     Ok(Parts::Drop(last_word(line)?))
 }
 
-// Behind `seed`: a number.
+// After `seed`: a number.
 fn seed(line: &LineTokens) -> Result<Parts, PartRefusal>
     ensures rest { IsCommandRest (kinds_in line.now) SeedDue result }
     ensures parts { IfOk result (AreParts (kinds_in line.now)) }
@@ -123,7 +123,7 @@ fn seed(line: &LineTokens) -> Result<Parts, PartRefusal>
     Ok(Parts::Seed(last_number(line)?))
 }
 
-// Behind `depth`: a number.
+// After `depth`: a number.
 fn depth(line: &LineTokens) -> Result<Parts, PartRefusal>
     ensures rest { IsCommandRest (kinds_in line.now) DepthDue result }
     ensures parts { IfOk result (AreParts (kinds_in line.now)) }
@@ -147,7 +147,7 @@ fn names(alloc: Global, line: &LineTokens, from: usize) -> Result<Vec<Name>, Par
     Ok(names)
 }
 
-// Behind `ignore`: names.
+// After `ignore`: names.
 fn ignore(alloc: Global, line: &LineTokens) -> Result<Parts, PartRefusal>
     requires { 1 ≤ size line.now }
     ensures rest { IsCommandRest (kinds_in line.now) (InNames of_ignored []) result }
@@ -156,7 +156,7 @@ fn ignore(alloc: Global, line: &LineTokens) -> Result<Parts, PartRefusal>
     Ok(Parts::Ignore(names(alloc, line, 1)?))
 }
 
-// Behind `ignoring` or `consider`: a table, a colon and names.
+// After `ignoring` or `consider`: a table, a colon and names.
 fn own(alloc: Global, line: &LineTokens, kind: ListKind) -> Result<Parts, PartRefusal>
     ensures rest { IsCommandRest (kinds_in line.now) (TableDue (list_kind_of kind)) result }
     ensures parts { IfOk result (AreParts (kinds_in line.now)) }
@@ -166,7 +166,7 @@ fn own(alloc: Global, line: &LineTokens, kind: ListKind) -> Result<Parts, PartRe
     Ok(Parts::Own(OwnList { kind, table, names }))
 }
 
-// Behind `common`: a table.
+// After `common`: a table.
 fn common(line: &LineTokens) -> Result<Parts, PartRefusal>
     ensures rest { IsCommandRest (kinds_in line.now) CommonDue result }
     ensures parts { IfOk result (AreParts (kinds_in line.now)) }
@@ -174,7 +174,7 @@ fn common(line: &LineTokens) -> Result<Parts, PartRefusal>
     Ok(Parts::Common(last_word(line)?))
 }
 
-// Behind `version`: a number.
+// After `version`: a number.
 fn version(line: &LineTokens) -> Result<Parts, PartRefusal>
     ensures rest { IsCommandRest (kinds_in line.now) VersionDue result }
     ensures parts { IfOk result (AreParts (kinds_in line.now)) }
@@ -182,7 +182,7 @@ fn version(line: &LineTokens) -> Result<Parts, PartRefusal>
     Ok(Parts::Version(last_number(line)?))
 }
 
-// Behind `lineage`: the name of a numbering.
+// After `lineage`: the name of a numbering.
 fn lineage(line: &LineTokens) -> Result<Parts, PartRefusal>
     ensures rest { IsCommandRest (kinds_in line.now) NumberingDue result }
     ensures parts { IfOk result (AreParts (kinds_in line.now)) }
@@ -196,7 +196,7 @@ fn lineage(line: &LineTokens) -> Result<Parts, PartRefusal>
     }
 }
 
-// Behind `schedule`: words, one at least.
+// After `schedule`: words, one at least.
 fn schedule(alloc: Global, line: &LineTokens) -> Result<Parts, PartRefusal>
     ensures rest { IsCommandRest (kinds_in line.now) ScheduleDue result }
     ensures parts { IfOk result (AreParts (kinds_in line.now)) }
@@ -214,7 +214,7 @@ fn schedule(alloc: Global, line: &LineTokens) -> Result<Parts, PartRefusal>
     Ok(Parts::Schedule(tables))
 }
 
-// Behind `lattice`: the name of one.
+// After `lattice`: the name of one.
 fn lattice(line: &LineTokens) -> Result<Parts, PartRefusal>
     ensures rest { IsCommandRest (kinds_in line.now) LatticeDue result }
     ensures parts { IfOk result (AreParts (kinds_in line.now)) }
@@ -228,7 +228,7 @@ fn lattice(line: &LineTokens) -> Result<Parts, PartRefusal>
     }
 }
 
-// Behind `string`: a level's number, or nothing.
+// After `string`: a level's number, or nothing.
 fn string(line: &LineTokens) -> Result<Parts, PartRefusal>
     ensures rest { IsCommandRest (kinds_in line.now) StringRead result }
     ensures parts { IfOk result (AreParts (kinds_in line.now)) }
@@ -239,7 +239,7 @@ fn string(line: &LineTokens) -> Result<Parts, PartRefusal>
     Ok(Parts::String(Some(last_number(line)?)))
 }
 
-// Behind the word of a command that is this word alone: nothing.
+// After the word of a command that is this word alone: nothing.
 fn alone(line: &LineTokens, parts: Parts) -> Result<Parts, PartRefusal>
     ensures end { IsCommandEnd (kinds_in line.now) parts result }
     ensures parts { IfOk result (λ p. p ≡ parts) }

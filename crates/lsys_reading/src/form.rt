@@ -25,7 +25,7 @@ impl Form {
         }
     }
 
-    // Whether what was read is a left context, by the token behind it.
+    // Whether what was read is a left context, by the token after it.
     pub(crate) fn takes_left(self, is_empty: bool, glyph: Glyph) -> bool
         ensures { result ≡ takes_left self is_empty glyph }
     {
@@ -35,7 +35,7 @@ impl Form {
         }
     }
 
-    // Whether a right context stands behind a predecessor, by the token behind that.
+    // Whether a right context stands after a predecessor, by the token after that.
     pub(crate) fn takes_right(self, glyph: Glyph) -> bool
         ensures { result ≡ takes_right self glyph }
     {

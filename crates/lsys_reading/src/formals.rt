@@ -9,21 +9,21 @@ use crate::refusal::PartRefusal;
 use lsys_text::Name;
 use std::alloc::Global;
 
-/// A formal, and what stands behind it.
+/// A formal, and what stands after it.
 #[derive(Clone, Copy)]
 pub(crate) struct FormalRead {
     pub name: Name,
     pub separator: Separator,
 }
 
-/// Formals, up to the token behind their parenthesis.
+/// Formals, up to the token after their parenthesis.
 #[derive(Drop)]
 pub(crate) struct FormalsRead {
     pub formals: Vec<Name>,
     pub end: usize,
 }
 
-// A formal at a place, and what stands behind it.
+// A formal at a place, and what stands after it.
 fn formal(line: &LineTokens, at: usize) -> Result<FormalRead, PartRefusal>
     requires within { at ≤ size line.now }
     ensures { IsFormalRead (kinds_in line.now) at result }
@@ -37,7 +37,7 @@ fn formal(line: &LineTokens, at: usize) -> Result<FormalRead, PartRefusal>
     Ok(FormalRead { name, separator })
 }
 
-// The formals behind a parenthesis.
+// The formals after a parenthesis.
 pub(crate) fn formals(
     alloc: Global,
     line: &LineTokens,

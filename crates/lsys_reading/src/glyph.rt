@@ -8,7 +8,7 @@ ghost use Rattle.lsys_reading.specs.Glyphs.{IsGlyph, IsPeeked, glyph_formal, gly
 use crate::line_tokens::LineTokens;
 use lsys_text::{Name, TokenKind};
 
-/// What stands between formals or parameters, or behind the last one.
+/// What stands between formals or parameters, or after the last one.
 #[derive(Clone, Copy, PartialEq, Eq, Debug)]
 pub(crate) enum Separator {
     Comma,

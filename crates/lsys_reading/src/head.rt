@@ -10,7 +10,7 @@ use crate::patterns::{Pattern, PatternModule, PatternsRead, Section, patterns};
 use crate::refusal::PartRefusal;
 use std::alloc::Global;
 
-/// A left context and a predecessor, up to the token behind them.
+/// A left context and a predecessor, up to the token after them.
 #[derive(Drop)]
 pub(crate) struct PredecessorRead {
     pub left: Vec<Pattern>,
@@ -18,14 +18,14 @@ pub(crate) struct PredecessorRead {
     pub end: usize,
 }
 
-/// A right context, where there is one, up to the token behind it.
+/// A right context, where there is one, up to the token after it.
 #[derive(Drop)]
 pub(crate) struct RightRead {
     pub right: Vec<Pattern>,
     pub end: usize,
 }
 
-/// Contexts and predecessor, up to the token behind them.
+/// Contexts and predecessor, up to the token after them.
 #[derive(Drop)]
 pub(crate) struct HeadRead {
     pub left: Vec<Pattern>,
@@ -48,7 +48,7 @@ fn only(symbols: Vec<Pattern>) -> Option<PatternModule>
     }
 }
 
-// A predecessor alone, behind a left context.
+// A predecessor alone, after a left context.
 fn single(
     left: Vec<Pattern>,
     symbols: Vec<Pattern>,

@@ -11,7 +11,7 @@ use crate::refusal::PartRefusal;
 use crate::words::word;
 use lsys_text::Word;
 
-/// A table, where it is written, and a label, up to the token behind their colon.
+/// A table, where it is written, and a label, up to the token after their colon.
 #[derive(Clone, Copy)]
 pub(crate) struct Heading {
     pub table: Option<Word>,
@@ -19,7 +19,7 @@ pub(crate) struct Heading {
     pub end: usize,
 }
 
-// The place behind a colon.
+// The place after a colon.
 fn colon(line: &LineTokens, at: usize) -> Result<usize, PartRefusal>
     ensures { IsColon (kinds_in line.now) at result }
 {

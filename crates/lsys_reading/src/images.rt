@@ -37,28 +37,28 @@ pub(crate) enum ImageOpening {
     Cut,
 }
 
-/// A parameter, and what stands behind it.
+/// A parameter, and what stands after it.
 #[derive(Clone, Copy)]
 pub(crate) struct ParamRead {
     pub span: Span,
     pub separator: Separator,
 }
 
-/// Parameters, up to the token behind their parenthesis.
+/// Parameters, up to the token after their parenthesis.
 #[derive(Drop)]
 pub(crate) struct ParamsRead {
     pub params: Vec<Span>,
     pub end: usize,
 }
 
-/// A module, up to the token behind it.
+/// A module, up to the token after it.
 #[derive(Drop)]
 pub(crate) struct ImageModuleRead {
     pub image: ImageModule,
     pub end: usize,
 }
 
-/// A symbol, up to the token behind it.
+/// A symbol, up to the token after it.
 #[derive(Drop)]
 pub(crate) struct ImageRead {
     pub symbol: Image,
@@ -78,7 +78,7 @@ fn image_opening(form: Form, branches: usize, glyph: Glyph) -> Option<ImageOpeni
     }
 }
 
-// How many branches are open behind a symbol.
+// How many branches are open after a symbol.
 fn image_branches(symbol: &Image, branches: usize) -> usize
     requires { branches < usize.MAX }
     ensures { result ≡ image_branches symbol.now branches }
@@ -90,7 +90,7 @@ fn image_branches(symbol: &Image, branches: usize) -> usize
     }
 }
 
-// A parameter, and what stands behind it.
+// A parameter, and what stands after it.
 fn param(line: &LineTokens, at: usize) -> Result<ParamRead, PartRefusal>
     requires within { at ≤ size line.now }
     ensures read { IsParamRead (kinds_in line.now) at result }
@@ -104,7 +104,7 @@ fn param(line: &LineTokens, at: usize) -> Result<ParamRead, PartRefusal>
     }
 }
 
-// The parameters behind a parenthesis.
+// The parameters after a parenthesis.
 fn params(alloc: Global, line: &LineTokens, at: usize) -> Result<ParamsRead, PartRefusal>
     requires within { at ≤ size line.now }
     ensures read { AreParamsRead (kinds_in line.now) at result }
@@ -124,7 +124,7 @@ fn params(alloc: Global, line: &LineTokens, at: usize) -> Result<ParamsRead, Par
     }
 }
 
-// A module behind its name.
+// A module after its name.
 fn image_module(
     alloc: Global,
     line: &LineTokens,

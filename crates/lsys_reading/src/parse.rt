@@ -21,8 +21,8 @@ use std::alloc::Global;
 ///
 /// # Errors
 ///
-/// `Token` and `Deep` have the column of the first token with which no command goes on, or the one behind the line's
-/// end. `Memory` is want of memory, and is told only of a line that begins with the word of a command.
+/// `Token` and `Deep` have the column of the first token with which no command goes on, or the one after the line's
+/// end. `Memory` is lack of memory, and is told only of a line that begins with the word of a command.
 pub fn parse_command(alloc: Global, tokens: &[Token], line_length: u32) -> Result<Command, Refusal>
     requires short { line_length ≤ most_line_bytes }
     requires forms { AreTokens (kind_row tokens.now) }

@@ -48,7 +48,7 @@ pub struct LabeledRule {
 /// What a command's tokens are the parts of.
 #[derive(Drop)]
 pub enum Parts {
-    /// Sets the axiom, whose string begins behind the first token.
+    /// Sets the axiom, whose string begins after the first token.
     Axiom,
     /// Puts a production.
     Production(LabeledRule),

@@ -53,14 +53,14 @@ pub(crate) enum Opening {
     Pop,
 }
 
-/// A module, up to the token behind it.
+/// A module, up to the token after it.
 #[derive(Drop)]
 pub(crate) struct ModuleRead {
     pub pattern: PatternModule,
     pub end: usize,
 }
 
-/// A symbol, up to the token behind it.
+/// A symbol, up to the token after it.
 #[derive(Drop)]
 pub(crate) struct SymbolRead {
     pub symbol: Pattern,
@@ -98,7 +98,7 @@ impl Standing {
     }
 }
 
-// A module behind its name.
+// A module after its name.
 fn module(
     alloc: Global,
     line: &LineTokens,
@@ -159,7 +159,7 @@ fn symbol(
     }
 }
 
-// How many branches are open behind a symbol.
+// How many branches are open after a symbol.
 fn branches_behind(symbol: &Pattern, branches: usize) -> usize
     requires { branches < usize.MAX }
     ensures { result ≡ branches_behind (symbol_read symbol.now) branches }

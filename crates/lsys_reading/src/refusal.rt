@@ -15,7 +15,7 @@ pub(crate) enum PartRefusal {
     /// As `Token`, but without the bound on nesting one does.
     #[error("token {place} nests too deep")]
     Deep { place: usize },
-    /// Want of memory.
+    /// Out of memory.
     #[error("out of memory")]
     Memory,
 }
@@ -47,13 +47,13 @@ impl PartRefusal {
 #[derive(Clone, Copy, PartialEq, Eq, Debug, Error)]
 pub enum Refusal {
     /// No command begins with the tokens up to the one at this column; where the line ends too early it is the
-    /// column behind its end.
+    /// column after its end.
     #[error("no command goes on at column {column}")]
     Token { column: u32 },
     /// As `Token`, but without the bound on nesting one does.
     #[error("column {column} nests too deep")]
     Deep { column: u32 },
-    /// Want of memory.
+    /// Out of memory.
     #[error("out of memory")]
     Memory,
 }

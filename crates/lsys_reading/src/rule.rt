@@ -23,12 +23,12 @@ pub struct RuleLine {
     pub successor: Vec<Image>,
 }
 
-/// The rule that the tokens from a place on are, up to the line's end: behind the colon of a line that begins with
+/// The rule that the tokens from a place on are, up to the line's end: after the colon of a line that begins with
 /// `production` or `hom`.
 ///
 /// # Errors
 ///
-/// `Token` and `Deep` have the place of the first token with which no such line goes on, and `Memory` is want of memory.
+/// `Token` and `Deep` have the place of the first token with which no such line goes on, and `Memory` is lack of memory.
 pub(crate) fn rule_line(
     alloc: Global,
     line: &LineTokens,

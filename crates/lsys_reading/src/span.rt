@@ -16,7 +16,7 @@ pub struct Span {
     pub to: usize,
 }
 
-/// A condition or a weight, where there is one, up to the token behind it.
+/// A condition or a weight, where there is one, up to the token after it.
 #[derive(Clone, Copy)]
 pub(crate) struct OptionRead {
     pub span: Option<Span>,
@@ -36,7 +36,7 @@ pub(crate) fn expression(line: &LineTokens, at: usize) -> Result<Span, PartRefus
     }
 }
 
-// A condition behind its colon, where there is one.
+// A condition after its colon, where there is one.
 pub(crate) fn condition(line: &LineTokens, at: usize) -> Result<OptionRead, PartRefusal>
     requires within { at ≤ size line.now }
     ensures read { IsConditionRead (kinds_in line.now) at result }
@@ -56,7 +56,7 @@ pub(crate) fn condition(line: &LineTokens, at: usize) -> Result<OptionRead, Part
     })
 }
 
-// A weight behind its `@`, where there is one.
+// A weight after its `@`, where there is one.
 pub(crate) fn weight(line: &LineTokens, at: usize, form: Form) -> Result<OptionRead, PartRefusal>
     requires within { at ≤ size line.now }
     ensures read { IsWeightRead form (kinds_in line.now) at result }
@@ -76,7 +76,7 @@ pub(crate) fn weight(line: &LineTokens, at: usize, form: Form) -> Result<OptionR
     })
 }
 
-// The arrow; the place behind it.
+// The arrow; the place after it.
 pub(crate) fn arrow(line: &LineTokens, at: usize) -> Result<usize, PartRefusal>
     requires within { at ≤ size line.now }
     ensures read { IsArrowRead (kinds_in line.now) at result }

@@ -74,7 +74,7 @@ pub(crate) fn end(line: &LineTokens, at: usize) -> Result<(), PartRefusal>
     }
 }
 
-// The word behind a line's first one, where it is the last token.
+// The word after a line's first one, where it is the last token.
 pub(crate) fn last_word(line: &LineTokens) -> Result<Word, PartRefusal>
     ensures { IsLastWord (kinds_in line.now) result }
 {
@@ -83,7 +83,7 @@ pub(crate) fn last_word(line: &LineTokens) -> Result<Word, PartRefusal>
     Ok(word)
 }
 
-// The number behind a line's first word, where it is the last token.
+// The number after a line's first word, where it is the last token.
 pub(crate) fn last_number(line: &LineTokens) -> Result<u64, PartRefusal>
     ensures { IsLastNumber (kinds_in line.now) result }
 {

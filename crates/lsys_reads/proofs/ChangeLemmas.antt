@@ -41,7 +41,7 @@ bare_row cells h none =
     let no_owed : 0 ≡ h.owed = omega (arith, none) in
     ap (λ (l : List ℕ). record { tags = l; owed = 0 }) no_tags ∙ ap (λ (n : ℕ). record { tags = slice_range cells h.start (h.start + h.len); owed = n }) no_owed
 
--- what a row is to hold has room, and so has one more of what is kept behind all rows
+-- what a row is to hold has room, and so has one more of what is kept after all rows
 pub record HasRoom (h : Head) (kept capacity : ℕ) : Type 0 where
   pub due : h.len + h.owed ≤ capacity
   pub more : kept - wanted h + kept_for (h.len + h.owed + 1) h.room ≤ capacity + (capacity + 1) / 16 + 2

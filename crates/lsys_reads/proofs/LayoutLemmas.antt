@@ -70,7 +70,7 @@ range_written old new list start head written fits apart =
       | inr above ↦ range_rest old new (start + length list) head.start (head.start + head.len) written.after above
     ])
 
--- cells that only come behind leave what stands
+-- cells that only come after leave what stands
 pub row_grown : (old new : List ℕ) (head : Head) → take (length old) new ≡ old → head.start + head.room ≤ length old → head.len ≤ head.room → row_in_cells new head ≡ row_in_cells old head
 row_grown old new head front inside fits =
     ap (λ (l : List ℕ). record { tags = l; owed = head.owed })
@@ -120,7 +120,7 @@ laid_set heads size size' n h laid within more inside fits apart = record {
     far : (k : ℕ) → k ≢ n → head_at (set heads n h) k ≡ head_at heads k
     far k other = get_or-set_other heads n k h empty_head other
 
--- what is kept behind all rows
+-- what is kept after all rows
 pub kept_set : (heads : List Head) (n kept kept' : ℕ) (h : Head) → n < length heads → kept ≡ sum_by wanted heads → kept' + wanted (head_at heads n) ≡ kept + wanted h → kept' ≡ sum_by wanted (set heads n h)
 kept_set heads n kept kept' h within was change =
     let sums = sum_by-set wanted heads n h empty_head within in

@@ -1,4 +1,4 @@
--- Rows that are moved to the front of a new vector, one behind the other.
+-- Rows that are moved to the front of a new vector, one after the other.
 use Rattle.std.proofs.Common.{◌≡◌, ◌≢◌, ℕ, zero, suc, ◌+◌, ◌-◌, ◌<◌, ◌≤◌, List, [], ◌∷◌, ◌++◌, map, length, take, drop, inl, inr, refl, sym, ap, subst, ◌∙◌, arith, length-append}
 use Rattle.std.specs.Prelude.{slice_range, sum_by}
 use Rattle.std.proofs.lemmas.Bool.{cases_eq}
@@ -20,7 +20,7 @@ head_at_end : (heads : List Head) (h : Head) → head_at (heads ++ h ∷ []) (le
 head_at_end [] h = refl
 head_at_end (x ∷ heads) h = head_at_end heads h
 
--- a row that is put behind all others is apart from them
+-- a row that is put after all others is apart from them
 pub laid_push : (heads : List Head) (size size' : ℕ) (h : Head) → IsLaid heads size → h.start ≡ size → h.start + h.room ≡ size' → h.len ≤ h.room → IsLaid (heads ++ h ∷ []) size'
 laid_push heads size size' h laid begins ends fits = record {
   inside = λ k. elim (cases_eq k (length heads)) [
@@ -47,7 +47,7 @@ laid_push heads size size' h laid begins ends fits = record {
     own : (k : ℕ) → k ≡ length heads → head_at (heads ++ h ∷ []) k ≡ h
     own k same = ap (head_at (heads ++ h ∷ [])) same ∙ head_at_end heads h
 
--- what stands in cells stays when more come behind
+-- what stands in cells stays when more come after
 rows_grown : (old new : List ℕ) (heads : List Head) → take (length old) new ≡ old → ((k : ℕ) → (head_at heads k).start + (head_at heads k).room ≤ length old) → ((k : ℕ) → (head_at heads k).len ≤ (head_at heads k).room) → rows_of new heads ≡ rows_of old heads
 rows_grown old new [] front inside fits = refl
 rows_grown old new (h ∷ heads) front inside fits =
@@ -61,7 +61,7 @@ pub record PacksTo (heads moved : List Head) (cells packed : List ℕ) : Type 0 
   pub sizes : map unplaced moved ≡ map unplaced (take (length moved) heads)
   pub laid : IsLaid moved (length packed)
 
--- the next row is put behind them
+-- the next row is put after them
 pub packs_one : (heads moved : List Head) (cells packed : List ℕ) (head h : Head) → IsLaid heads (length cells) → PacksTo heads moved cells packed → length moved < length heads → head ≡ head_at heads (length moved)
     → h ≡ record { start = length packed; room = head.room; len = head.len; owed = head.owed }
     → PacksTo heads (moved ++ h ∷ []) cells (packed ++ slice_range cells head.start (head.start + head.room))

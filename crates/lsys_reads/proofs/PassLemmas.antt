@@ -16,7 +16,7 @@ rising_step xs at some within rising above =
     (rising_above (take at xs) (get_or xs at 0) rising (λ _. subst (λ (n : ℕ). n < get_or xs at 0)
     (sym (ap (λ (n : ℕ). get_or (take at xs) (n - 1) 0) many ∙ get_or-take at xs (at - 1) 0 (omega (arith, some)))) above))
 
--- a tag that is written behind the others, above the last
+-- a tag that is written after the others, above the last
 pub rising_written : (cells : List ℕ) (len x : ℕ) → len < length cells → IsRising (take len cells) → (0 < len → get_or cells (len - 1) 0 < x) → IsRising (take (len + 1) (set cells len x))
 rising_written cells len x within rising above =
     let many : length (take len cells) ≡ len = length-take-le len cells (omega (arith, within)) in

@@ -42,7 +42,7 @@ has_front (x ∷ l) (suc n) q there = told (x == q) (has (take n l) q) (has l q)
     told true b c more there = refl
     told false b c more there = more there
 
--- cells that come behind leave a run
+-- cells that come after leave a run
 pub run_grown : (cells more : List ℕ) (run : Stretch) → run.start + run.len ≤ length cells → run_in_cells (cells ++ more) run ≡ run_in_cells cells run
 run_grown cells more run inside =
     range_front cells (cells ++ more) (length cells) run.start (run.start + run.len)
@@ -54,12 +54,6 @@ run_set runs n run within = get_or-set_same runs n run empty_run within
 
 pub run_far : (runs : List Stretch) (n k : ℕ) (run : Stretch) → k ≢ n → stretch_at (set runs n run) k ≡ stretch_at runs k
 run_far runs n k run other = get_or-set_other runs n k run empty_run other
-
-pub within_set : (runs : List Stretch) (size size' n : ℕ) (run : Stretch) → LieWithin runs size → n < length runs → size ≤ size' → run.start + run.len ≤ size' → LieWithin (set runs n run) size'
-within_set runs size size' n run was within more inside k = elim (cases_eq k n) [
-  | inl same ↦ subst (λ (x : Stretch). x.start + x.len ≤ size') (sym (ap (stretch_at (set runs n run)) same ∙ run_set runs n run within)) inside
-  | inr other ↦ subst (λ (x : Stretch). x.start + x.len ≤ size') (sym (run_far runs n k run other)) (let here = was k in omega (arith, here, more))
-]
 
 -- the run of a reader has the next cell too
 pub noted : (cells : List ℕ) (runs : List Stretch) (n tag room room' : ℕ) (run next : Stretch) → LieWithin runs (length cells) → n < length runs → run ≡ stretch_at runs n
@@ -119,7 +113,7 @@ pub record PacksTo (runs moved : List Stretch) (cells packed : List ℕ) : Type 
   pub rows : runs_in packed moved ≡ runs_in cells (take (length moved) runs)
   pub within : LieWithin moved (length packed)
 
--- the next run is put behind them
+-- the next run is put after them
 pub packs_run : (runs moved : List Stretch) (cells packed : List ℕ) (run next : Stretch) → LieWithin runs (length cells) → PacksTo runs moved cells packed → length moved < length runs → run ≡ stretch_at runs (length moved)
     → next ≡ record { start = length packed; len = run.len } → PacksTo runs (moved ++ next ∷ []) cells (packed ++ run_in_cells cells run)
 packs_run runs moved cells packed run next lie so_far within is made =

@@ -22,7 +22,7 @@ range_take xs start n m most =
 pub turned_right : (xs : List ℕ) (x : ℕ) (n : ℕ) → n ≡ length xs → drop n (xs ++ x ∷ []) ++ take n (xs ++ x ∷ []) ≡ x ∷ xs
 turned_right xs x n same = ap (λ (l : List ℕ). l ++ take n (xs ++ x ∷ [])) (drop_at xs (x ∷ []) n (sym same)) ∙ ap (λ (l : List ℕ). x ∷ l) (take_at xs (x ∷ []) n (sym same))
 
--- a tag was written behind the first `len`, and turned to its place
+-- a tag was written after the first `len`, and turned to its place
 pub inserted : (cells ys part : List ℕ) (len place x : ℕ) → len < length cells → place ≤ len → part ≡ slice_range (set cells len x) place (len + 1)
     → ys ≡ drop (length part - 1) part ++ take (length part - 1) part
     → take (len + 1) (put_mid place (len + 1 - place) (set cells len x) ys) ≡ insert (take len cells) place x
@@ -46,7 +46,7 @@ inserted cells ys part len place x within most is turned =
     drop_append [] ys (suc n) within = absurd (omega (arith, within))
     drop_append (z ∷ xs) ys (suc n) within = drop_append xs ys n (omega (arith, within))
 
--- the tag at the place was turned behind the others
+-- the tag at the place was turned after the others
 pub removed : (cells ys : List ℕ) (len place : ℕ) → len ≤ length cells → place < len
     → ys ≡ drop 1 (slice_range cells place len) ++ take 1 (slice_range cells place len)
     → take (len - 1) (put_mid place (len - place) cells ys) ≡ remove (take len cells) place

@@ -17,7 +17,7 @@ cells_of cells head = slice_range cells head.start (head.start + head.room)
 abbrev pub rows_of : List ℕ → List Head → List Row
 rows_of cells heads = map (row_in_cells cells) heads
 
--- how many cells are kept behind all rows for one that is to hold so many tags in so many cells
+-- how many cells are kept after all rows for one that is to hold so many tags in so many cells
 abbrev pub kept_for : ℕ → ℕ → ℕ
 kept_for due room = cond (nat_le due room) 0 (due + due / 16)
 
@@ -33,7 +33,7 @@ trimmed head = cond (nat_le (head.len + head.owed) 0) empty_head head
 abbrev pub HaveApartCells : Head → Head → Type 0
 HaveApartCells one two = (one.start + one.room ≤ two.start) ⊎ (two.start + two.room ≤ one.start)
 
--- the head with this number; an empty one behind the last
+-- the head with this number; an empty one after the last
 abbrev pub head_at : List Head → ℕ → Head
 head_at heads n = slice_index_or heads n empty_head
 
@@ -43,7 +43,7 @@ pub record IsLaid (heads : List Head) (size : ℕ) : Type 0 where
   pub fits : (n : ℕ) → (head_at heads n).len ≤ (head_at heads n).room
   pub apart : (m n : ℕ) → m ≢ n → HaveApartCells (head_at heads m) (head_at heads n)
 
--- the rows lie apart, and there is capacity for what is kept behind them
+-- the rows lie apart, and there is capacity for what is kept after them
 pub record AreSoundRows (heads : List Head) (size kept capacity : ℕ) : Type 0 where
   pub laid : IsLaid heads size
   pub kept_is : kept ≡ sum_by wanted heads
@@ -58,7 +58,7 @@ pub record Packs (old_heads new_heads : List Head) (old_cells new_cells : List �
   pub rows : rows_of new_cells new_heads ≡ rows_of old_cells old_heads
   pub heads : map unplaced new_heads ≡ map unplaced old_heads
 
--- the row has room for all that it is owed: in its own cells, or in new ones behind all others
+-- the row has room for all that it is owed: in its own cells, or in new ones after all others
 pub record ComesToPlace (old new : List ℕ) (head placed : Head) : Type 0 where
   pub tags : slice_range new placed.start (placed.start + placed.len) ≡ slice_range old head.start (head.start + head.len)
   pub front : take (length old) new ≡ old

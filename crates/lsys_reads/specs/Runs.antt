@@ -26,7 +26,7 @@ run_in_cells cells run = slice_range cells run.start (run.start + run.len)
 abbrev pub runs_in : List ℕ → List Stretch → List (List ℕ)
 runs_in cells runs = map (run_in_cells cells) runs
 
--- the run with this number; an empty one behind the last
+-- the run with this number; an empty one after the last
 abbrev pub stretch_at : List Stretch → ℕ → Stretch
 stretch_at runs n = slice_index_or runs n empty_run
 

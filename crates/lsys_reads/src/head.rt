@@ -4,7 +4,7 @@ ghost use Rattle.lsys_reads.specs.Layout.{empty_head, kept_for, wanted, trimmed}
 
 /// Where the row of a tag stands: it has `room` cells from `start` on, and its tags stand in the first `len` of them.
 ///
-/// For `owed` tags more room is kept: in these cells, or behind all rows, if these are too few.
+/// For `owed` tags more room is kept: in these cells, or after all rows, if these are too few.
 #[derive(Clone, Copy, Drop)]
 pub(crate) struct Head {
     pub(crate) start: usize,
@@ -26,7 +26,7 @@ impl Head {
         }
     }
 
-    /// How many cells are kept behind all rows for this one.
+    /// How many cells are kept after all rows for this one.
     #[inline]
     pub(crate) fn wanted(self) -> usize
         requires { self.len + self.owed < 2 ^ 63 }
@@ -47,7 +47,7 @@ impl Head {
     }
 }
 
-/// How many cells are kept behind all rows for one that is to hold so many tags in so many cells: none, if these are
+/// How many cells are kept after all rows for one that is to hold so many tags in so many cells: none, if these are
 /// enough; else a sixteenth more than it needs, so that a row that grows for long is seldom moved.
 #[inline]
 pub(crate) fn kept_for(due: usize, room: usize) -> usize

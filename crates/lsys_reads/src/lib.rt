@@ -1,15 +1,19 @@
-//! Two finite relations on tags, settled and pending: which reader's answer read which symbol.
+//! What the nodes of a forest keep from one rest to the next: answers, who read which symbol, and who stood beside a node.
 //!
-//! Each tag that is read has a row of its readers, which rises, and each reader a run of what it saw, which is only gone
-//! through to forget it. So a change costs by what it touches. All rows stand in one vector, and all runs in another. Room
-//! for what is pending is kept in both by [`Reads::add`], so that [`Reads::settle`] and [`Reads::retract`] take no memory.
+//! An answer that is kept is a [`KeptAnswer`]. `specs/Levels.antt` says what it means that nodes have the levels of a system, with
+//! the answers to its questions.
+//!
+//! Who read which symbol is told by [`Reads`]: two finite relations on tags, settled and pending, between a reader, as whose answer
+//! something was read, and what it read. Each tag that is read has a row of its readers, which rises, and each reader a run of what
+//! it saw, which is only gone through to forget it. So a change costs by what it touches. All rows stand in one vector, and all
+//! runs in another. Room for what is pending is kept in both by [`Reads::add`], so that [`Reads::settle`] and [`Reads::retract`] take
+//! no memory.
+//!
+//! Who stood beside a node, and which bracket was its mate, is told by its seat ([`Seats`]). A pass that repairs levels keeps the
+//! seats, and sets them anew only where a level changed. So it tells a node that is disturbed by one look at its seat, with no copy
+//! of any old level. Marks go with the seats, so that a list keeps a node once. Where to look, it is told by the seams of a level:
+//! the nodes whose neighbours may be others, since nodes of the level above them have other children or other neighbours.
 #![tactic(auto)]
-
-mod head;
-mod pack;
-mod row;
-mod runs;
-mod table;
 
 ghost use Rattle.std.specs.Prelude.{◌≡◌, ℕ, ◌<◌, ◌++◌, ◌∷◌, [], length, take, false, vec_capacity, OnOk, OnErr, IfNone, IfSome};
 ghost use Rattle.std.specs.List.Sorted.{IsPermutation};
@@ -17,8 +21,23 @@ ghost use Rattle.lsys_reads.specs.Rows.{has, tag_row, IsRising, AreRising};
 ghost use Rattle.lsys_reads.specs.Runs.{ClearsSights};
 ghost use Rattle.lsys_reads.specs.Relations.{is_settled, SettledStay, Covers, LackReader, Thins, AddsPending, SettlesGone, ForgetsGone, SettlesPending, PendingStay};
 
+mod answer;
+mod head;
+mod mates;
+mod pack;
+mod row;
+mod runs;
+mod seams;
+mod seat;
+mod seats;
+mod table;
+
+pub use answer::KeptAnswer;
 use lsys_level::Tag;
+pub use mates::{look_at_mates, look_into_branches};
 use runs::Runs;
+pub use seams::{look_around, look_beyond};
+pub use seats::{Seats, law_of_kept_seats};
 use std::alloc::{AllocError, Global};
 use std::cmp::Reverse;
 use std::marker::Model;
@@ -70,7 +89,7 @@ impl Reads {
     ///
     /// # Errors
     ///
-    /// Want of memory. Then both relations stay.
+    /// Out of memory. Then both relations stay.
     pub fn add(&mut self, reader: Tag, seen: Tag) -> Result<(), AllocError>
         ensures settled { SettledStay self.old self.new }
         ensures ok { OnOk result (AddsPending reader seen self.old self.new) }
@@ -145,7 +164,7 @@ impl Reads {
     /// Takes the pairs of the readers in `gone` out of the settled ones, and then adds the pending pairs to them. It
     /// takes no memory.
     ///
-    /// It costs steps by the pairs that come and go. Up to a few hundred of them in one row move the tags behind them,
+    /// It costs steps by the pairs that come and go. Up to a few hundred of them in one row move the tags after them,
     /// each for itself; where there may be more, the row is gone through once for all, in steps by its length and the
     /// logarithm of that. So if the readers in `gone` rise; else a row may be gone through for each of them. A row that has
     /// too little room for what comes is moved, and gets a sixteenth more than it needs. A reader that has settled pairs and

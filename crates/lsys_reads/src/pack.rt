@@ -1,17 +1,17 @@
-//! Room behind the rows of a table.
-ghost use Rattle.std.specs.Prelude.{◌+◌, ◌<◌, ◌≤◌, ◌^◌, length, IfOk, OnOk, OnErr, true, vec_capacity, ◌≡◌, ◌++◌};
+//! Room after the rows of a table.
+ghost use Rattle.std.specs.Prelude.{◌+◌, ◌<◌, ◌≤◌, length, IfOk, OnOk, OnErr, true, vec_capacity, ◌≡◌, ◌++◌};
 ghost use Rattle.lsys_reads.specs.Layout.{IsLaid, Packs, ComesToPlace, cells_of, wanted};
 
 use crate::head::Head;
 use lsys_level::Tag;
 use std::alloc::{AllocError, Global};
 
-/// Makes room for so many cells behind all rows. Where there is none the rows are packed into a vector that has half as
+/// Makes room for so many cells after all rows. Where there is none the rows are packed into a vector that has half as
 /// many cells again: all that takes cells until the next time shares the steps.
 ///
 /// # Errors
 ///
-/// Want of memory. Then all rows stay.
+/// Out of memory. Then all rows stay.
 #[inline]
 pub(crate) fn provide(
     alloc: Global,
@@ -32,7 +32,7 @@ pub(crate) fn provide(
     pack(alloc, heads, cells, behind)
 }
 
-/// Whether there is room for so many cells behind all rows.
+/// Whether there is room for so many cells after all rows.
 #[inline]
 fn has_room(cells: &Vec<Tag>, behind: usize) -> bool
     ensures { result ≡ true → length cells.now.items + behind ≤ vec_capacity cells.now }
@@ -40,7 +40,7 @@ fn has_room(cells: &Vec<Tag>, behind: usize) -> bool
     behind <= cells.capacity() - cells.len()
 }
 
-/// Moves all rows to the front of a new vector, one behind the other, with room for so many cells behind them.
+/// Moves all rows to the front of a new vector, one after the other, with room for so many cells after them.
 #[cold]
 #[inline(never)]
 fn pack(
@@ -79,7 +79,7 @@ fn append(packed: &mut Vec<Tag>, cells: &[Tag], head: Head) -> Result<Head, Allo
     Ok(Head { start, ..head })
 }
 
-/// The head of the row with room for all that it is owed: its own, or one behind all rows, where the tags stand now. It
+/// The head of the row with room for all that it is owed: its own, or one after all rows, where the tags stand now. It
 /// takes no memory.
 #[inline]
 pub(crate) fn placed(cells: &mut Vec<Tag>, head: Head, room: usize) -> Head
@@ -97,7 +97,7 @@ pub(crate) fn placed(cells: &mut Vec<Tag>, head: Head, room: usize) -> Head
     }
 }
 
-/// The same, where so many cells are kept for it behind all rows.
+/// The same, where so many cells are kept for it after all rows.
 #[cold]
 #[inline(never)]
 fn moved(cells: &mut Vec<Tag>, head: Head, room: usize) -> Head

@@ -1,8 +1,8 @@
 //! The cells of one row: its tags stand in the first of them, and rise.
 //!
-//! A change moves the tags behind it. Where many changes may come to one row, it is gone through once for all of them:
+//! A change moves the tags after it. Where many changes may come to one row, it is gone through once for all of them:
 //! what comes is put at the end while more than a few are owed, and what goes is taken out together.
-ghost use Rattle.std.specs.Prelude.{◌≡◌, ℕ, ◌+◌, ◌<◌, ◌≤◌, ◌||◌, ◌&&◌, ◌==◌, not, length, take, true};
+ghost use Rattle.std.specs.Prelude.{◌≡◌, ℕ, ◌+◌, ◌<◌, ◌≤◌, ◌||◌, ◌&&◌, ◌==◌, length, take, true};
 ghost use Rattle.std.specs.Ordering.{nat_cmp};
 ghost use Rattle.std.specs.List.{insert};
 ghost use Rattle.std.specs.List.Sorted.{IsSorted};

@@ -1,6 +1,6 @@
 //! What each reader saw.
 //!
-//! All of it stands in one vector of cells, that of a reader as one run of them. What comes is put behind all runs, so a
+//! All of it stands in one vector of cells, that of a reader as one run of them. What comes is put after all runs, so a
 //! reader whose pairs come together has them alone in its run; else its run reaches over what came between. A run that
 //! is given up leaves its cells; they are got back when room runs out.
 ghost use Rattle.std.specs.Prelude.{◌≡◌, ◌<◌, ◌≤◌, ◌+◌, ◌^◌, ◌++◌, [], length, IfOk, OnOk, OnErr, vec_capacity};
@@ -25,7 +25,7 @@ impl Stretch {
         Stretch { start: 0, len: 0 }
     }
 
-    /// The run that has the cell with this number too, which is behind it: it ends there, and begins where it began.
+    /// The run that has the cell with this number too, which is after it: it ends there, and begins where it began.
     #[inline]
     fn up_to(self, last: usize) -> Stretch
         requires behind { self.start + self.len ≤ last }
@@ -79,7 +79,7 @@ impl Runs {
     ///
     /// # Errors
     ///
-    /// Want of memory.
+    /// Out of memory.
     #[inline]
     pub(crate) fn reserve(&mut self, reader: Tag, many: usize) -> Result<(), AllocError>
         ensures stay { SightsStay self.old self.new }
@@ -146,7 +146,7 @@ impl Runs {
     }
 }
 
-/// Makes room for so many cells behind all runs.
+/// Makes room for so many cells after all runs.
 #[inline]
 fn provide(
     alloc: Global,
@@ -167,7 +167,7 @@ fn provide(
     grow(alloc, runs, cells, many)
 }
 
-/// Makes room for so many cells behind all runs, and half as many again as there are: in a new vector if less than half
+/// Makes room for so many cells after all runs, and half as many again as there are: in a new vector if less than half
 /// of the cells stand in runs.
 #[cold]
 #[inline(never)]
@@ -192,7 +192,7 @@ fn grow(
     cells.reserve(more)
 }
 
-/// Moves all runs to the front of a new vector, one behind the other, with room for so many cells behind them.
+/// Moves all runs to the front of a new vector, one after the other, with room for so many cells after them.
 fn pack(
     alloc: Global,
     runs: &mut Vec<Stretch>,

@@ -12,7 +12,7 @@ use lsys_level::Tag;
 use std::alloc::{AllocError, Global};
 use std::marker::Model;
 
-/// A row for each tag, and how many cells are kept behind all rows for those that are to be placed.
+/// A row for each tag, and how many cells are kept after all rows for those that are to be placed.
 #[derive(Drop)]
 pub(crate) struct Table {
     alloc: Global,

@@ -88,7 +88,7 @@ impl<T: Copy> Region<T> {
     ///
     /// # Errors
     ///
-    /// Want of memory, and only where the spare was less than `n`. Then all stays as it was.
+    /// Out of memory, and only where the spare was less than `n`. Then all stays as it was.
     pub fn reserve(&mut self, n: usize) -> Result<(), AllocError>
         ensures spare { OnOk result (n ≤ self.new.spare) }
         ensures runs { OnOk result (self.new ≡ record self.old { spare = max self.old.spare n }) }

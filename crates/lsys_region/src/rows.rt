@@ -79,7 +79,7 @@ impl Rows {
     ///
     /// # Errors
     ///
-    /// Want of memory. The entries stay.
+    /// Out of memory. The entries stay.
     pub(crate) fn reserve(&mut self, n: usize, places: usize) -> Result<(), AllocError>
         ensures entries { entries_of_rows self.new ≡ entries_of_rows self.old }
         ensures ok { OnOk result (length (entries_of_rows self.new) + n ≤ capacity_of self.new) }

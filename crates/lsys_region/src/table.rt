@@ -60,7 +60,7 @@ impl Table {
     ///
     /// # Errors
     ///
-    /// Want of memory. The parts stay.
+    /// Out of memory. The parts stay.
     pub(crate) fn reserve(&mut self, n: usize, places: usize) -> Result<(), AllocError>
         ensures parts { self.new.parts ≡ self.old.parts }
         ensures end { self.new.end ≡ self.old.end }

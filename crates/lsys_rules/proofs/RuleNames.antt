@@ -22,14 +22,14 @@ use Rattle.lsys_reading.specs.Spans.{option_at}
 use Rattle.lsys_reading.specs.Images.{images_at}
 use Rattle.lsys_reading.specs.Commands.{parts_command}
 use Rattle.lsys_reading.specs.Parted.{IsParted}
-use Rattle.lsys_checks.specs.Formals.{AreFormalNames, head_pieces, rest_pieces}
-use Rattle.lsys_checks.specs.declared.formals.FormalNames.{FormalNames}
-use Rattle.lsys_checks.proofs.Adding.{count-append}
-use Rattle.lsys_checks.proofs.HeadNames.{IsQuiet, head-rest, quiet-rest}
-use Rattle.lsys_checks.proofs.WholeSearch.{rule-formals}
+use Rattle.lsys_bodies.specs.Formals.{AreFormalNames, head_pieces, rest_pieces}
+use Rattle.lsys_bodies.specs.declared.formals.FormalNames.{FormalNames}
+use Rattle.lsys_bodies.proofs.Adding.{count-append}
+use Rattle.lsys_bodies.proofs.HeadNames.{IsQuiet, head-rest, quiet-rest}
+use Rattle.lsys_bodies.proofs.WholeSearch.{rule-formals}
 use Rattle.lsys_rules.specs.Formals.{HasFormals}
 
--- A rule's formals that repeat don't depend on its expressions: none stands behind its contexts and its predecessor.
+-- A rule's formals that repeat don't depend on its expressions: none stands after its contexts and its predecessor.
 
 abbrev rest_of : Option Expr → Option Expr → List Piece → List Piece
 rest_of c w ps = option_pieces Colon c ++ (option_pieces At w ++ blank ∷ token Arrow ∷ ps)

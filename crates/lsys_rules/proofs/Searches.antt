@@ -33,7 +33,7 @@ place-from p n xs = ap (counted_on n) (by_length ∙ position_from-zero p xs ∙
     by_length : position p xs ≡ cond (nat_lt (position_or_len p xs) (length xs)) (Some (position_or_len p xs)) None
     by_length = refl
 
--- an element, and those behind it
+-- an element, and those after it
 pub any_at : {A : Type 0} (p : A → Bool) (xs : List A) (i : ℕ) (d : A) → i < length xs → d ≡ get_or xs i d → any p (drop i xs) ≡ (p d || any p (drop (i + 1) xs))
 any_at p [] i d h e = absurd (omega (arith, h))
 any_at p (x ∷ xs) zero d h e = ap (λ y. p y || any p xs) (sym e)

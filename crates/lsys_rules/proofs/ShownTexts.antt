@@ -17,7 +17,7 @@ use Rattle.lsys_module.specs.Views.{module_name}
 use Rattle.lsys_module.proofs.PrintedTexts.{text_of-append}
 use Rattle.lsys_rules.specs.Showing.{script_line, listed_text, names_text, kinds_text, expr_behind, version_lines}
 
--- a text of items, one behind another
+-- a text of items, one after another
 pub record Gathers {X : Type 0} (whole : List X → List ℕ) (each : X → List ℕ) : Type 0 where
   pub none : whole [] ≡ []
   pub more : (xs ys : List X) → whole (xs ++ ys) ≡ whole xs ++ whole ys
@@ -28,7 +28,7 @@ pub gathered-step : {X : Type 0} (whole : List X → List ℕ) (each : X → Lis
 gathered-step whole each g xs i d h e =
     ap whole (take_more xs i d h ∙ ap (λ x. take i xs ++ x ∷ []) (sym e)) ∙ g.more (take i xs) (d ∷ []) ∙ ap (λ t. whole (take i xs) ++ t) (g.one d)
 
--- the items up to a place, and those behind it
+-- the items up to a place, and those after it
 pub gathered-rest : {X : Type 0} (whole : List X → List ℕ) (each : X → List ℕ) → Gathers whole each → (xs : List X) (i : ℕ) → whole xs ≡ whole (take i xs) ++ whole (drop i xs)
 gathered-rest whole each g xs i = ap whole (sym (take-append-drop i xs)) ∙ g.more (take i xs) (drop i xs)
 
@@ -62,7 +62,7 @@ kinds_gather f = record {
   one = λ x. append-nil (token_text (f x));
 }
 
--- a line, and the lines behind it
+-- a line, and the lines after it
 pub line-behind : (c : Command) (cs : List Command) → script_of (c ∷ cs) ≡ script_line c ++ script_of cs
 line-behind c cs = sym (append_assoc (text_of (command_pieces c)) (10 ∷ []) (script_of cs))
 
@@ -208,7 +208,7 @@ own-line o =
     let names = text_of (string_behind (map as_symbol o.names)) in
     append_assoc (list_word o.kind) (32 ∷ (o.table ++ 58 ∷ names)) (10 ∷ []) ∙ ap (λ t. list_word o.kind ++ 32 ∷ t) (append_assoc o.table (58 ∷ names) (10 ∷ []))
 
--- names that are some, behind their colon
+-- names that are some, after their colon
 pub listed-text : (ns : List ModuleName) → (ns ≡ [] → ⊥) → listed_text ns ≡ codes ": " ++ (names_text ns ++ 10 ∷ [])
 listed-text [] h = absurd (h refl)
 listed-text (n ∷ ns) h = refl

@@ -12,7 +12,7 @@ use Rattle.lsys_rules.specs.declared.refusal.Refusal.TheVariants.{Version, Name,
 abbrev pub IsToldAt : CommandLine → edits.Why → ℕ → Option edits.Refusal → Type 0
 IsToldAt line why column told = (place : ℕ) × (told ≡ Some (record { why = why; place = place })) × (column ≡ column_of line.bytes line.tokens place)
 
--- the refusal that the definitions tell; for want of memory only where they tell none
+-- the refusal that the definitions tell; for lack of memory only where they tell none
 abbrev pub IsEditRefusal : CommandLine → Option edits.Refusal → Refusal → Type 0
 IsEditRefusal line told (Version column) = IsToldAt line edits.wrong_version column told
 IsEditRefusal line told (Name column) = IsToldAt line edits.unknown_name column told

@@ -6,8 +6,8 @@ use Rattle.lsys_text.specs.declared.token_kind.Token.{Token}
 use Rattle.lsys_reading.specs.Parted.{IsParted}
 use Rattle.lsys_reading.specs.declared.parts.Parts.{Parts}
 use Rattle.lsys_reading.specs.declared.parts.Parts.TheVariants.{Production, Homomorphism}
-use Rattle.lsys_checks.specs.Formals.{AreFormalNames}
-use Rattle.lsys_checks.specs.declared.formals.FormalNames.{FormalNames}
+use Rattle.lsys_bodies.specs.Formals.{AreFormalNames}
+use Rattle.lsys_bodies.specs.declared.formals.FormalNames.{FormalNames}
 
 -- those of the rule, where there is one
 abbrev pub HasFormals : Parts → Option FormalNames → Type 0

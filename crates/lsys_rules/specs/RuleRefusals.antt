@@ -13,9 +13,9 @@ use Rattle.lsys_reading.specs.RuleLines.{rule_at, IsRuleLine}
 use Rattle.lsys_reading.specs.declared.parts.LabeledRule.{LabeledRule}
 use Rattle.lsys_reading.specs.declared.rule.RuleLine.{RuleLine}
 use Rattle.lsys_bodies.specs.Building.{homomorphism_at, production_at}
-use Rattle.lsys_checks.specs.Formals.{AreFormalNames}
-use Rattle.lsys_checks.specs.Searching.{count}
-use Rattle.lsys_checks.specs.declared.formals.FormalNames.{FormalNames}
+use Rattle.lsys_bodies.specs.Formals.{AreFormalNames}
+use Rattle.lsys_bodies.specs.Searching.{count}
+use Rattle.lsys_bodies.specs.declared.formals.FormalNames.{FormalNames}
 use Rattle.lsys_rules.specs.Faults.{Tells, mixes, elsewhere, IsNewcomer}
 use Rattle.lsys_rules.specs.WrittenCommands.{written_rule}
 use Rattle.lsys_rules.specs.declared.faults.Fault.{Fault}
@@ -91,6 +91,6 @@ spelled_hom_refusal s ts l = homomorphism_refusal s (homomorphism_at (kind_row t
 
 -- 4. names to ignore
 
--- so many names to ignore, behind a line's first token, are too many
+-- so many names to ignore, after a line's first token, are too many
 abbrev pub ignored_refusal : ℕ → Option Refusal
 ignored_refusal n = refused_if (nat_lt most_ignored n) many (most_ignored + 1)

@@ -28,13 +28,13 @@ homomorphism_line r = script_line (as_put_homomorphism (homomorphism_of r))
 abbrev pub body_text : Body → List ℕ
 body_text b = text_of (rule_pieces (as_rule b))
 
--- a label and the rule behind it, up to the line's end
+-- a label and the rule after it, up to the line's end
 abbrev pub labelled_line : List ℕ → Body → List ℕ
 labelled_line label b = label ++ (58 ∷ 32 ∷ (body_text b ++ 10 ∷ []))
 
 -- 2. contexts
 
--- a left context and the mark behind it, where there is one
+-- a left context and the mark after it, where there is one
 abbrev pub left_text : List Pattern → List ℕ
 left_text ps = text_of (left_pieces (map pattern_symbol ps))
 
@@ -47,10 +47,10 @@ right_text xs = text_of (right_pieces (map item_symbol xs))
 
 -- 3. the condition, the weight and the successor
 
--- an expression behind its mark, where there is one
+-- an expression after its mark, where there is one
 abbrev pub expression_behind : List ℕ → Option Expression → List ℕ
 expression_behind mark o = expr_behind mark (option_map expr_in o)
 
--- a successor, behind a blank where it has symbols
+-- a successor, after a blank where it has symbols
 abbrev pub successor_text : List Template → List ℕ
 successor_text xs = text_of (successor_pieces (map template_symbol xs))

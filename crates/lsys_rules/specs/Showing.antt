@@ -15,12 +15,12 @@ script_line c = text_of (command_pieces c) ++ 10 ∷ []
 abbrev pub names_text : List ModuleName → List ℕ
 names_text ns = text_of (string_pieces signed_pieces (map as_symbol ns))
 
--- tokens one directly behind another
+-- tokens one directly after another
 abbrev pub kinds_text : List Kind → List ℕ
 kinds_text [] = []
 kinds_text (k ∷ ks) = token_text k ++ kinds_text ks
 
--- an expression behind its mark, where there is one
+-- an expression after its mark, where there is one
 abbrev pub expr_behind : List ℕ → Option Expr → List ℕ
 expr_behind mark None = []
 expr_behind mark (Some e) = mark ++ text_of (expr_pieces e)
@@ -29,6 +29,6 @@ expr_behind mark (Some e) = mark ++ text_of (expr_pieces e)
 abbrev pub version_lines : ℕ → Numbering → List ℕ
 version_lines v g = if v == 1 then [] else script_line (set_version v) ++ script_of (numbering_commands g)
 
--- what stands behind the word of a table in the line of its own list
+-- what stands after the word of a table in the line of its own list
 abbrev pub listed_text : List ModuleName → List ℕ
 listed_text ns = 58 ∷ (text_of (string_behind (map as_symbol ns)) ++ 10 ∷ [])

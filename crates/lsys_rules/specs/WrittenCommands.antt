@@ -14,11 +14,11 @@ use Rattle.lsys_reading.specs.declared.parts.LabeledRule.{LabeledRule}
 use Rattle.lsys_reading.specs.declared.parts.OwnList.{OwnList}
 use Rattle.lsys_reading.specs.declared.rule.RuleLine.{RuleLine}
 
--- the string behind an axiom's word
+-- the string after an axiom's word
 abbrev pub written_axiom : List Token → List (Symbol Signed)
 written_axiom ts = string_in (axiom_reading (kind_row ts))
 
--- the tokens behind an axiom's word are a string
+-- the tokens after an axiom's word are a string
 abbrev pub SpellsAxiom : List Token → Type 0
 SpellsAxiom ts = axiom_reading (kind_row ts) ≡ sentence (set_axiom (written_axiom ts))
 

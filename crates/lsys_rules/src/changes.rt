@@ -89,7 +89,7 @@ fn with_axiom(
     Ok(next)
 }
 
-// The string behind an axiom's word.
+// The string after an axiom's word.
 fn built_string(alloc: Global, tokens: &[Token]) -> Result<SymbolList, AllocError>
     requires place { 1 ≤ length tokens.now }
     requires forms { AreTokens (kind_row tokens.now) }

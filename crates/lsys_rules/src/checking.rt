@@ -12,7 +12,7 @@ use crate::system::System;
 ///
 /// # Errors
 ///
-/// The first refusal, as `apply` has it; never want of memory.
+/// The first refusal, as `apply` has it; never lack of memory.
 pub fn check(system: &System, command: &Command) -> Result<(), Refusal>
     ensures refusal { IsChecked system.now command.now result }
     ensures no_memory { result ≢ Err Memory }

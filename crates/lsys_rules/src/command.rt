@@ -11,7 +11,7 @@ ghost use Rattle.lsys_rules.specs.Parsing.{IsParsedLine};
 ghost use Rattle.lsys_rules.specs.WrittenCommands.{rule_place};
 
 use crate::refusal::Refusal;
-use lsys_checks::FormalNames;
+use lsys_bodies::FormalNames;
 use lsys_reading::{CommandKind, LabeledRule, Parts};
 use lsys_text::Token;
 use std::alloc::{AllocError, Global};
@@ -42,8 +42,8 @@ impl Model for Command {
 ///
 /// # Errors
 ///
-/// `Token` and `Deep` have the column of the first token with which no command goes on, or the one behind the line's end,
-/// and `Memory` is want of memory, told only of a line that begins with the word of a command. No other refusal comes.
+/// `Token` and `Deep` have the column of the first token with which no command goes on, or the one after the line's end,
+/// and `Memory` is lack of memory, told only of a line that begins with the word of a command. No other refusal comes.
 pub fn parse_command(alloc: Global, tokens: &[Token], length: u32) -> Result<Command, Refusal>
     requires short { length ≤ most_line_bytes }
     requires forms { AreTokens (kind_row tokens.now) }

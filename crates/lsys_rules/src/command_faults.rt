@@ -18,7 +18,7 @@ use crate::edit_faults::{
 use crate::faults::{Cause, Fault};
 use crate::rule_faults::{homomorphism_fault, production_fault};
 use crate::system::System;
-use lsys_checks::FormalNames;
+use lsys_bodies::FormalNames;
 use lsys_module::first_many;
 use lsys_reading::Parts;
 use lsys_text::Token;

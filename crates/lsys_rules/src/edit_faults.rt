@@ -17,7 +17,7 @@ use crate::system::System;
 use lsys_bodies::Rule;
 use lsys_text::{Name, Word};
 
-/// What refuses these names, behind a line's first token.
+/// What refuses these names, after a line's first token.
 pub(crate) fn ignore_fault(names: &[Name]) -> Option<Fault>
     ensures { Tells result (ignored_refusal (length names.now)) }
 {
@@ -88,7 +88,7 @@ pub(crate) fn common_fault(system: &System, table: Word) -> Option<Fault>
     table_fault(system.tables(), table)
 }
 
-// What refuses the word behind a line's first one as a table.
+// What refuses the word after a line's first one as a table.
 fn table_fault(tables: &[Word], word: Word) -> Option<Fault>
     ensures { Tells result (refused_if (not (is_table tables.now word)) wrong_table 1) }
 {

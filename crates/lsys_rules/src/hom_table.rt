@@ -46,7 +46,7 @@ impl HomTable {
     ///
     /// # Errors
     ///
-    /// Want of memory.
+    /// Out of memory.
     pub fn new(alloc: Global) -> Result<HomTable, AllocError>
         ensures { IfOk result (λ t. t ≡ []) }
     {
@@ -68,7 +68,7 @@ impl HomTable {
     ///
     /// # Errors
     ///
-    /// Want of memory.
+    /// Out of memory.
     pub fn with(&self, alloc: Global, rule: HomRule) -> Result<HomTable, AllocError>
         ensures { IfOk result (λ t. t ≡ put_hom (homomorphism_of rule) self.now) }
     {
@@ -81,7 +81,7 @@ impl HomTable {
     ///
     /// # Errors
     ///
-    /// Want of memory.
+    /// Out of memory.
     pub fn without(&self, alloc: Global, label: Word) -> Result<HomTable, AllocError>
         ensures { IfOk result (λ t. t ≡ without_hom label self.now) }
     {

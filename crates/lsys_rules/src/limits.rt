@@ -6,7 +6,7 @@ pub(crate) const MOST_RULES: usize = 256;
 /// The most tables, `main` counted.
 pub(crate) const MOST_TABLES: usize = 16;
 
-/// The most names behind `ignore`, or of a table's own list, as they are written.
+/// The most names after `ignore`, or of a table's own list, as they are written.
 pub(crate) const MOST_IGNORED: usize = 64;
 
 /// The most words of a schedule.

@@ -50,7 +50,7 @@ impl OwnTable {
     ///
     /// # Errors
     ///
-    /// Want of memory.
+    /// Out of memory.
     pub fn new(alloc: Global) -> Result<OwnTable, AllocError>
         ensures { IfOk result (λ t. t ≡ []) }
     {
@@ -72,7 +72,7 @@ impl OwnTable {
     ///
     /// # Errors
     ///
-    /// Want of memory.
+    /// Out of memory.
     pub fn with(&self, alloc: Global, list: OwnList) -> Result<OwnTable, AllocError>
         ensures { IfOk result (λ t. t ≡ put_own list self.now) }
     {
@@ -87,7 +87,7 @@ impl OwnTable {
     ///
     /// # Errors
     ///
-    /// Want of memory.
+    /// Out of memory.
     pub fn without(&self, alloc: Global, table: Word) -> Result<OwnTable, AllocError>
         ensures { IfOk result (λ t. t ≡ without_own table self.now) }
     {

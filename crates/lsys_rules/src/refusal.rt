@@ -12,7 +12,7 @@ pub enum Refusal {
     /// The line is longer than a line may be.
     #[error("syntax long")]
     LongLine,
-    /// No command begins with the tokens up to this one; where the line ends too early it is the column behind its end.
+    /// No command begins with the tokens up to this one; where the line ends too early it is the column after its end.
     #[error("syntax token {column}")]
     Token { column: u32 },
     /// As `Token`, but without the bound on nesting one does.
@@ -42,7 +42,7 @@ pub enum Refusal {
     /// The first token at which a limit is passed.
     #[error("many {column}")]
     TooMany { column: u32 },
-    /// Want of memory.
+    /// Out of memory.
     #[error("memory")]
     Memory,
 }

@@ -56,7 +56,7 @@ impl RuleTable {
     ///
     /// # Errors
     ///
-    /// Want of memory.
+    /// Out of memory.
     pub fn new(alloc: Global) -> Result<RuleTable, AllocError>
         ensures { IfOk result (λ t. t ≡ []) }
     {
@@ -89,7 +89,7 @@ impl RuleTable {
     ///
     /// # Errors
     ///
-    /// Want of memory.
+    /// Out of memory.
     pub fn with(&self, alloc: Global, rule: Rule) -> Result<RuleTable, AllocError>
         ensures { IfOk result (λ t. t ≡ put (as_production rule) self.now) }
     {
@@ -105,7 +105,7 @@ impl RuleTable {
     ///
     /// # Errors
     ///
-    /// Want of memory.
+    /// Out of memory.
     pub fn without(&self, alloc: Global, label: Word) -> Result<RuleTable, AllocError>
         ensures { IfOk result (λ t. t ≡ without_rule label self.now) }
     {

@@ -131,7 +131,7 @@ fn put_ignored<K: Sink>(out: &mut Buffered, sink: &mut K, names: &[Name]) -> Res
     out.put(sink, b"\n")
 }
 
-// Puts names, each behind a blank where it needs one.
+// Puts names, each after a blank where it needs one.
 fn put_names<K: Sink>(out: &mut Buffered, sink: &mut K, names: &[Name]) -> Result<(), Failed>
     ensures { Puts K.Sink sink out (names_text (map module_name names.now)) result }
 {
@@ -200,7 +200,7 @@ fn put_list_word<K: Sink>(out: &mut Buffered, sink: &mut K, kind: ListKind) -> R
     }
 }
 
-// Puts a colon and the names behind it, up to the line's end.
+// Puts a colon and the names after it, up to the line's end.
 fn put_listed<K: Sink>(out: &mut Buffered, sink: &mut K, names: &[Name]) -> Result<(), Failed>
     ensures { Puts K.Sink sink out (listed_text (map module_name names.now)) result }
 {
@@ -220,7 +220,7 @@ fn put_schedule<K: Sink>(out: &mut Buffered, sink: &mut K, words: &[Word]) -> Re
     out.put(sink, b"\n")
 }
 
-// Puts words, each behind a blank.
+// Puts words, each after a blank.
 fn put_words<K: Sink>(out: &mut Buffered, sink: &mut K, words: &[Word]) -> Result<(), Failed>
     ensures { Puts K.Sink sink out (text_of (words_pieces words.now)) result }
 {

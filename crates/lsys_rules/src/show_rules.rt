@@ -73,7 +73,7 @@ fn put_body<K: Sink>(out: &mut Buffered, sink: &mut K, body: &Body) -> Result<()
     put_successor(out, sink, &body.successor)
 }
 
-// Puts a left context and the mark behind it, where there is one.
+// Puts a left context and the mark after it, where there is one.
 fn put_left<K: Sink>(out: &mut Buffered, sink: &mut K, patterns: &[Pattern]) -> Result<(), Failed>
     ensures { Puts K.Sink sink out (left_text patterns.now) result }
 {
@@ -102,7 +102,7 @@ fn put_right<K: Sink>(out: &mut Buffered, sink: &mut K, items: &[Item]) -> Resul
     put_symbols::<K, Item, Name, Items>(out, sink, items)
 }
 
-// Puts a condition or a weight behind its mark, where there is one.
+// Puts a condition or a weight after its mark, where there is one.
 fn put_option<K: Sink>(
     out: &mut Buffered,
     sink: &mut K,
@@ -140,7 +140,7 @@ fn put_expr<K: Sink>(out: &mut Buffered, sink: &mut K, expr: &Expr) -> Result<()
     put_kinds(out, sink, expr.kinds())
 }
 
-// Puts tokens of an expression, one directly behind another.
+// Puts tokens of an expression, one directly after another.
 fn put_kinds<K: Sink>(out: &mut Buffered, sink: &mut K, kinds: &[TokenKind]) -> Result<(), Failed>
     requires { All IsMarkByte kinds.now }
     ensures { Puts K.Sink sink out (kinds_text (map kind_of kinds.now)) result }

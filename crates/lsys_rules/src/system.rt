@@ -62,7 +62,7 @@ impl System {
     ///
     /// # Errors
     ///
-    /// Want of memory.
+    /// Out of memory.
     pub fn opening(alloc: Global) -> Result<System, AllocError>
         ensures { IfOk result (λ s. s ≡ opening) }
     {

@@ -19,7 +19,7 @@ use Rattle.lsys_session.specs.declared.outcome.Outcome.TheVariants as outcomes
 abbrev pub line_reply : ℕ → System → List ℕ → Reply
 line_reply limit s line = elim (is_long line) [ true ↦ refused s (codes "syntax long") | false ↦ bare_reply limit s line ]
 
--- want of memory may stand in place of the reply, but not of that to a line which is too long or passed over
+-- lack of memory may stand in place of the reply, but not of that to a line which is too long or passed over
 abbrev pub may_lack : List ℕ → Bool
 may_lack line = not (is_long line) && not (is_passed_over line)
 

@@ -47,7 +47,7 @@ abbrev pub is_edit : Request → Bool
 is_edit (Edit next) = true
 is_edit r = false
 
--- the reply to a request; want of memory may stand in its place, but not where nothing is asked
+-- the reply to a request; lack of memory may stand in its place, but not where nothing is asked
 abbrev pub given_reply : ℕ → System → Request → Bool → Reply
 given_reply limit s r lacks = memory_or (lacks && is_something r) s (reply_to limit s r)
 

@@ -27,7 +27,7 @@ pub record IsRead (line : List ℕ) (found : Option (List Token)) : Type 0 where
   pub short : length line ≤ most_line_bytes
   pub tokens : IsReadAs line found
 
--- why a line isn't read: the column of its first byte that is in no token, or want of memory where it has none such; a line that is
+-- why a line isn't read: the column of its first byte that is in no token, or lack of memory where it has none such; a line that is
 -- passed over isn't refused
 abbrev pub IsUnread : List ℕ → Refusal → Type 0
 IsUnread line (refusals.Byte column) = (is_passed_over line ≡ false) × (tokens line ≡ Err column)

@@ -100,7 +100,7 @@ query_by kinds.Svg = Some Svg
 query_by kinds.Show = Some Show
 query_by kinds.Quit = Some Quit
 
--- the reply to what a line asks, where it isn't refused for want of memory
+-- the reply to what a line asks, where it isn't refused for lack of memory
 abbrev pub reply_to : ℕ → spec.System → Request → Reply
 reply_to limit s Nothing = said s []
 reply_to limit s (Edit next) = edited limit s next (levels_of limit next)
@@ -121,7 +121,7 @@ abbrev pub HasLevel : spec.System → Request → Type 0
 HasLevel s (String (Some t)) = t ≤ s.depth
 HasLevel s r = Unit {0}
 
--- for any limit of the session, this is the reply to the line; want of memory is no answer to a line that is passed over, or that
+-- for any limit of the session, this is the reply to the line; lack of memory is no answer to a line that is passed over, or that
 -- has a byte in no token
 abbrev pub IsRequest : spec.System → List ℕ → Result Request Refusal → Type 0
 IsRequest s bare (Ok r) = ((limit : ℕ) → bare_reply limit s bare ≡ reply_to limit s r) × HasLevel s r × IsAskedBy s (bare_spelled bare) r

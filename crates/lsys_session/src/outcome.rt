@@ -16,7 +16,7 @@ pub enum Outcome {
     Printed,
     /// It was refused, and changed nothing.
     Refused,
-    /// It was refused for want of memory, and changed nothing.
+    /// It was refused for lack of memory, and changed nothing.
     Memory,
     /// It ended the session, and has no reply.
     Quit,

@@ -34,7 +34,7 @@ impl<'a> ReadLine<'a> {
     ///
     /// # Errors
     ///
-    /// The first byte that is in no token, or want of memory; neither comes at a line that is passed over.
+    /// The first byte that is in no token, or lack of memory; neither comes at a line that is passed over.
     pub fn new(alloc: Global, line: &'a [u8]) -> Result<ReadLine<'a>, Refusal>
         requires { length line.now ≤ most_line_bytes }
         ensures line { IfOk result (λ read. read ≡ line.now) }

@@ -62,7 +62,7 @@ fn put_number<K: Sink>(out: &mut Buffered, sink: &mut K, number: u32) -> Result<
     out.put_number(sink, i128::from(number))
 }
 
-// Puts words and, right behind them, a number.
+// Puts words and, right after them, a number.
 fn put_with_number<K: Sink>(
     out: &mut Buffered,
     sink: &mut K,

@@ -32,7 +32,7 @@ pub enum Request {
 ///
 /// # Errors
 ///
-/// The first refusal of the line by itself, in the language's order; want of memory comes for no line without a reply, and in
+/// The first refusal of the line by itself, in the language's order; lack of memory comes for no line without a reply, and in
 /// place of no refusal that was found.
 pub fn request_of(alloc: Global, system: &System, line: &ReadLine<'_>) -> Result<Request, Refusal>
     ensures { IsRequest system.now line.now result }

@@ -1,4 +1,4 @@
-//! Replies that are put whole: all that is held is written behind each.
+//! Replies that are put whole: all that is held is written after each.
 ghost use Rattle.std.specs.Prelude.{◌≡◌, ◌<◌, [], IfOk, length};
 ghost use Rattle.lsys_spec.specs.Shown.{show_text};
 ghost use Rattle.lsys_session.specs.Requests.{count_text, refusal_line};

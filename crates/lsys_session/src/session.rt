@@ -46,7 +46,7 @@ impl<L: Ledger, D: Derivation<L>> Session<L, D> {
     ///
     /// # Errors
     ///
-    /// Want of memory.
+    /// Out of memory.
     pub fn start(alloc: Global, limit: u32) -> Result<Session<L, D>, AllocError>
         requires { limit ≤ greatest_module_limit }
         ensures system { IfOk result (λ s. D.system_of s ≡ opening) }
@@ -63,7 +63,7 @@ impl<L: Ledger, D: Derivation<L>> Session<L, D> {
     /// What isn't accepted leaves the session as it was: the derivation that it keeps, with its system, its levels and the answers
     /// that they keep. What the allocator and `out` have room for stays out of this.
     ///
-    /// Want of memory is told of no line that has a byte in no token.
+    /// Out of memory is told of no line that has a byte in no token.
     ///
     /// An accepted edit asks the questions that are new, and an edit whose levels are refused or for which memory is wanting
     /// at most as many as the limit has symbols; nothing else asks any.
@@ -142,7 +142,7 @@ impl<L: Ledger, D: Derivation<L>> Session<L, D> {
     ///
     /// The counters rise as at the line. What is no edit, or isn't accepted, leaves the session as it was.
     ///
-    /// Want of memory is told in place of no refusal that is found without memory: that of a picture's image. A level takes none.
+    /// Out of memory is told in place of no refusal that is found without memory: that of a picture's image. A level takes none.
     ///
     /// # Errors
     ///

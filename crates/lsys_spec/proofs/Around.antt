@@ -33,7 +33,7 @@ told_by : (o : Option ℕ) (f : ℕ → ℕ) (q : ℕ) → option_map f o ≡ So
 told_by None f q h = cc
 told_by (Some n) f q h = (n, refl, cc)
 
--- the element n places behind the front that is dropped
+-- the element n places after the front that is dropped
 get_drop : (x : List LevelSymbol) (k n : ℕ) → slice_get (drop k x) n ≡ slice_get x (k + n)
 get_drop x zero n = let e : n ≡ 0 + n = omega arith in ap (slice_get x) e
 get_drop [] (suc k) n = refl

@@ -10,7 +10,7 @@ use Rattle.lsys_spec.specs.Questions.{questions_at, questions_below, questions}
 use Rattle.lsys_spec.specs.Morphisms.{AreAlike, ignoring}
 use Rattle.lsys_spec.proofs.Ignoring.{level_same, questions_same}
 
--- levels, and the next one behind them
+-- levels, and the next one after them
 record Longer (r : Result (List (List LevelSymbol)) LevelRefusal) (next : List (List LevelSymbol) → Result (List LevelSymbol) LevelRefusal) (limit t : ℕ) (levels : List (List LevelSymbol)) : Type 0 where
   before : List (List LevelSymbol)
   last : List LevelSymbol

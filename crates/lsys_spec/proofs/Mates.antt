@@ -15,7 +15,7 @@ close_there (Push l ∷ x) n q h = let s = after_rule (close_of (suc n) x) q h i
 close_there (Pop l ∷ x) zero q h = let e : 0 ≡ q = cc in rw (← e) (l, refl)
 close_there (Pop l ∷ x) (suc n) q h = let s = after_rule (close_of n x) q h in rw (s.2) (close_there x n s.0 s.1)
 
--- c ends the branch with n around it, and m is what stands behind
+-- c ends the branch with n around it, and m is what stands after
 abbrev pub Peels : ℕ → Nest → LevelSymbol → Nest → Type 0
 Peels n (at_root r) c m = ⊥
 Peels zero (in_branch r close k) c m = (close ≡ c) × (k ≡ m)

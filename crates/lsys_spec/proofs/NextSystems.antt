@@ -1,4 +1,4 @@
--- What a line leaves behind.
+-- What a line leaves after.
 use Rattle.std.proofs.Common.{◌≡◌, ℕ, Bool, true, false, List, [], refl, ap, sym, ◌∙◌, true≢false, arith}
 use Rattle.std.specs.Prelude.{Option, Some, None, Result, Ok, Err, length, map, codes}
 use Rattle.lsys_syntax.specs.Lines.{without_cr}

@@ -97,7 +97,7 @@ before_numbered a n m before [] l = tt
 before_numbered a n m before (x ∷ xs) l =
     (subst (Before (a ++ n ∷ [])) (sym (born_lineage (a ++ m ∷ []) x)) (before_sibling a n m l), before_numbered a n (m + 1) (code_of x ∷ before) xs (omega (arith, l)))
 
--- children of a lineage, and then what stands behind all of its children
+-- children of a lineage, and then what stands after all of its children
 pub rising_numbered : (n : ℕ) (before a : List ℕ) (xs : List (S.Symbol ℤ)) (y : List Raw) → ((i : ℕ) → RawsWith Before (a ++ i ∷ []) y) → PairwiseRaws Before y → PairwiseRaws Before (numbered by_place n before a xs ++ y)
 rising_numbered n before a [] y f h = h
 rising_numbered n before a (x ∷ xs) y f h = (

@@ -21,7 +21,7 @@ use Rattle.lsys_spec.specs.Refusals.{is_passed_over}
 use Rattle.lsys_spec.specs.ReadBack.{IsPlainLine, spelled_by, accepted_system, then_command, read_lines, IsReadBack}
 use Rattle.lsys_spec.proofs.Applied.{apply_all, commands-applied}
 
--- each printed byte is a blank or comes behind it: none is an LF or a CR
+-- each printed byte is a blank or comes after it: none is an LF or a CR
 abbrev printed : ℕ → Bool
 printed c = nat_le 32 c
 

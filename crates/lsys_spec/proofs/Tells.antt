@@ -136,7 +136,7 @@ outer_foreign d (e ∷ m) h = λ i. omega (arith, h i)
 back_out : (d : Mark) (e : Entry) → mark_of e ≡ d → (mark_of e).rule ≡ (deeper d).rule → (mark_of e).depth < (deeper d).depth
 back_out d e a i = omega (arith, ap (λ d. d.depth) a)
 
--- behind a branch that was entered in vain the walk goes on outside of it
+-- after a branch that was entered in vain the walk goes on outside of it
 passed_foreign : (f : ModuleName → Bool) (d : Mark) (qs p : Patterns) (r : Items) (m : List Entry) → Ends d (right_walk f d (BranchOf qs p) r) m
     → Foreign (deeper d) ((right_walk f d (BranchOf qs p) r).entries ++ m)
 passed_foreign f d qs p Nothing m h = outer_foreign d m (h refl)

@@ -42,7 +42,7 @@ either_by : (a b : Bool) → elim a [ true ↦ true | false ↦ b ] ≡ a || b
 either_by true b = refl
 either_by false b = refl
 
--- the first, or one behind it
+-- the first, or one after it
 pub any_is : {A : Type 0} (p : A → Bool) (x : A) (xs : List A) → any_holds p (x ∷ xs) ≡ p x || any_holds p xs
 any_is p x xs = either_by (p x) (any_holds p xs)
 

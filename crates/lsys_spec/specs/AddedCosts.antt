@@ -6,7 +6,7 @@ use Rattle.lsys_spec.specs.Output.{reply_or_memory}
 use Rattle.lsys_spec.specs.Costs.{Cost, ◌and◌, cost_or_memory, costs_from, Within}
 
 -- where a line doesn't end the session, its cost comes to those before it, and then those of the
--- lines behind it, from the system that it leaves
+-- lines after it, from the system that it leaves
 abbrev pub CostsAddUpLineByLine : Type 0
 CostsAddUpLineByLine =
     (answer : System → List ℕ → Reply) (cost : System → List ℕ → Cost) (M : ℕ → Bool)
@@ -16,7 +16,7 @@ CostsAddUpLineByLine =
     ≡ (sofar and cost_or_memory cost (M n) s line)
     and costs_from answer cost M (n + 1) r.next lines
 
--- behind a line that ends the session nothing is added
+-- after a line that ends the session nothing is added
 abbrev pub NothingIsAddedBehindTheEnd : Type 0
 NothingIsAddedBehindTheEnd =
     (answer : System → List ℕ → Reply) (cost : System → List ℕ → Cost) (M : ℕ → Bool)

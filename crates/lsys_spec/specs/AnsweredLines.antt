@@ -1,4 +1,4 @@
--- What was answered stays answered, and what a line leaves behind.
+-- What was answered stays answered, and what a line leaves after.
 use Rattle.std.specs.Prelude.{ℕ, Bool, List, [], ◌∷◌, ◌++◌, ◌≡◌, true, Some, false, Ok}
 use Rattle.lsys_syntax.specs.Commands.{Command}
 use Rattle.lsys_spec.specs.Systems.{System}
@@ -13,7 +13,7 @@ FrontsAreAnsweredAlike =
     (answer : System → List ℕ → Reply) (front rest : List ℕ) (M : ℕ → Bool)
     → IsFront (out answer (front ++ 10 ∷ []) M) (out answer (front ++ 10 ∷ rest) M)
 
--- behind a `quit` that is heeded nothing is answered
+-- after a `quit` that is heeded nothing is answered
 abbrev pub NothingIsAnsweredBehindTheEnd : Type 0
 NothingIsAnsweredBehindTheEnd =
     (answer : System → List ℕ → Reply) (front rest : List ℕ) (M : ℕ → Bool)

@@ -38,7 +38,7 @@ left_patterns [] = []
 left_patterns (S.Module n fs ∷ xs) = pattern_of n fs ∷ left_patterns xs
 left_patterns (x ∷ xs) = left_patterns xs
 
--- patterns, and behind each bracket that ends their branch the patterns around it
+-- patterns, and after each bracket that ends their branch the patterns around it
 pub data PatternNest : Type 0 where
   outermost : Patterns → PatternNest
   within : Patterns → PatternNest → PatternNest
@@ -51,7 +51,7 @@ abbrev pub with_branch : Patterns → PatternNest → PatternNest
 with_branch inner (outermost p) = outermost (BranchOf inner p)
 with_branch inner (within p n) = within (BranchOf inner p) n
 
--- a branch is behind its `[` (In a well-spelled system a right context is balanced, so there is always one around it.)
+-- a branch is after its `[` (In a well-spelled system a right context is balanced, so there is always one around it.)
 abbrev pub opened : PatternNest → PatternNest
 opened (outermost inner) = outermost (BranchOf inner Done)
 opened (within inner n) = with_branch inner n

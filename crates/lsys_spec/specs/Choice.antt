@@ -123,7 +123,7 @@ found_with found place b (Yes values) =
     weighed b.weight values and_then λ weight. within_total (found ++ record { place = place; values = values; weight = weight } ∷ [])
 found_with found place b (Fails k) = Err k
 
--- behind those that were found before; after a fault no rule is tried
+-- after those that were found before; after a fault no rule is tried
 abbrev pub all_applying : Asking → List Step → Items → Tried → Result (List Applying) Fault → List Body → Told (Result (List Applying) Fault)
 all_applying a w r d (Err k) bs = says (Err k)
 all_applying a w r d (Ok found) [] = says (Ok found)

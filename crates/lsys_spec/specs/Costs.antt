@@ -12,7 +12,7 @@ use Rattle.lsys_spec.specs.Replies.{is_query, spelled_command}
 use Rattle.lsys_spec.specs.Output.{may_lack_memory, reply_or_memory}
 
 -- Of accepted edits: the questions that have to be asked, and the least and the most entries that are read for them.
--- And how many edits are refused for their levels, or lines for want of memory.
+-- And how many edits are refused for their levels, or lines for lack of memory.
 pub record Cost : Type 0 where
   pub need : ℕ
   pub least : ℕ
@@ -72,11 +72,11 @@ abbrev pub cost_to : Visits → ℕ → System → Option System → Cost
 cost_to visits limit s None = no_cost
 cost_to visits limit s (Some next) = edit_cost visits s next (meaning s limit) (meaning next limit)
 
--- of a line that isn't refused for want of memory
+-- of a line that isn't refused for lack of memory
 abbrev pub line_cost : Visits → ℕ → System → List ℕ → Cost
 line_cost visits limit s line = cost_to visits limit s (edited_system s line)
 
--- of a line that may be refused for want of memory
+-- of a line that may be refused for lack of memory
 abbrev pub cost_or_memory : (System → List ℕ → Cost) → Bool → System → List ℕ → Cost
 cost_or_memory cost lacks s line =
     elim (lacks && may_lack_memory line) [ true ↦ one_refusal | false ↦ cost s line ]

@@ -42,7 +42,7 @@ never_closes n (Plain (Push l) ∷ x) = never_closes (suc n) x
 never_closes zero (Plain (Pop l) ∷ x) = false
 never_closes (suc n) (Plain (Pop l) ∷ x) = never_closes n x
 
--- The cut at place q cuts off the symbol at place p: q isn't behind p, and nothing from q to p ends the branch of q.
+-- The cut at place q cuts off the symbol at place p: q isn't after p, and nothing from q to p ends the branch of q.
 pub record CutsOff (x : List Raw) (q p : ℕ) : Type 0 where
   pub there : (l : List ℕ) × (slice_get x q ≡ Some (Cut l))
   pub reaches : q ≤ p
@@ -55,7 +55,7 @@ abbrev pub is_percent : Raw → Bool
 is_percent (Cut l) = true
 is_percent (Plain s) = false
 
--- the same as a test: by the first symbol, or by one behind it
+-- the same as a test: by the first symbol, or by one after it
 abbrev pub is_cut_off : List Raw → ℕ → Bool
 is_cut_off [] p = false
 is_cut_off (r ∷ x) zero = is_percent r
@@ -78,7 +78,7 @@ abbrev pub WithAll : (List ℕ → List ℕ → Type 0) → List ℕ → List Le
 WithAll R a [] = Unit {0}
 WithAll R a (s ∷ ss) = R a (lineage s) × WithAll R a ss
 
--- each lineage and every one behind it are related
+-- each lineage and every one after it are related
 abbrev pub Pairwise : (List ℕ → List ℕ → Type 0) → List LevelSymbol → Type 0
 Pairwise R [] = Unit {0}
 Pairwise R (s ∷ ss) = WithAll R (lineage s) ss × Pairwise R ss

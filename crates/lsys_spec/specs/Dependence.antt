@@ -25,7 +25,7 @@ LevelsAreMadeByAMorphism =
     → (x : List LevelSymbol)
     → AreMade (children_from s t x 0 0 x) (rewritten (given_alone s t) (map plain x))
 
--- strings one behind the other are rewritten each by itself, and the first fault is the whole's
+-- strings one after the other are rewritten each by itself, and the first fault is the whole's
 abbrev pub StringsAreRewrittenLetterByLetter : Type 0
 StringsAreRewrittenLetterByLetter =
     (h : ModuleValue → Result (List (S.Symbol ℤ)) Fault) (xs ys : List (S.Symbol ℤ))

@@ -15,7 +15,7 @@ word s =
 abbrev pub number_base : ℕ
 number_base = 4096
 
--- the word that many words behind the one of a state
+-- the word that many words after the one of a state
 abbrev pub word_past : ℕ → ℕ → ℕ
 word_past state n = word ((state + 1 + n) % 2 ^ 64)
 

@@ -86,7 +86,7 @@ table_or_main (Some t) = t
 abbrev pub production_of : Option (List ℕ) → List ℕ → Rule → Production
 production_of t l r = record { table = table_or_main t; label = l; rule = r }
 
--- the place of a production's label: behind its table word, where that is written
+-- the place of a production's label: after its table word, where that is written
 abbrev pub label_place : Option (List ℕ) → ℕ
 label_place None = 1
 label_place (Some t) = 2
@@ -95,7 +95,7 @@ label_place (Some t) = 2
 abbrev pub stands_elsewhere : System → Production → Bool
 stands_elsewhere s p = any (λ q. same_label q p && not (bytes_eq q.table p.table)) s.rules || any (λ h. bytes_eq h.label p.label) s.homomorphisms
 
--- The label is token number n, and the rule's own tokens begin two behind it.
+-- The label is token number n, and the rule's own tokens begin two after it.
 abbrev pub production_refusal : System → ℕ → Production → Option Refusal
 production_refusal s n p =
     or_else (refused_at (rule_unknown (n + 2) p.rule) unknown_name)

@@ -16,7 +16,7 @@ use Rattle.lsys_spec.specs.Morphisms.{occurs}
 use Rattle.lsys_spec.specs.Replies.{reply}
 use Rattle.lsys_spec.specs.Output.{out, none, last_system}
 
--- the system behind a script, and its levels
+-- the system after a script, and its levels
 abbrev after : List ℕ → System
 after script = last_system (out (reply 100000) script none)
 

@@ -8,7 +8,7 @@ pub record ModuleValue : Type 0 where
   pub name : ModuleName
   pub params : List ℤ
 
--- A bracket or a module, behind its lineage: the numbers, counted from 0, of its ancestors among their siblings, the eldest first.
+-- A bracket or a module, after its lineage: the numbers, counted from 0, of its ancestors among their siblings, the eldest first.
 pub data LevelSymbol : Type 0 where
   Push : List ℕ → LevelSymbol
   Pop : List ℕ → LevelSymbol
@@ -84,7 +84,7 @@ pub data Items : Type 0 where
   One : LevelSymbol → Items → Items
   Branch : LevelSymbol → LevelSymbol → Items → Items → Items
 
--- items, and behind each bracket that ends their branch the items around it
+-- items, and after each bracket that ends their branch the items around it
 pub data Nest : Type 0 where
   at_root : Items → Nest
   in_branch : Items → LevelSymbol → Nest → Nest

@@ -32,7 +32,7 @@ pub expression_tokens :
 unfolding digits
 expression_tokens = refl
 
--- the 2,049th token of a rule, of which the first stands behind the label's colon
+-- the 2,049th token of a rule, of which the first stands after the label's colon
 pub rule_tokens :
     run
     (codes "production p: A => " ++ (repeated 113 (codes "A(1,1,1,1,1,1,1,1)") ++ (codes "A(1,1,1,1)AA\nproduction p: A => "

@@ -21,7 +21,7 @@ raw_of l S.Push = Plain (Push l)
 raw_of l S.Pop = Plain (Pop l)
 raw_of l S.Cut = Cut l
 
--- these symbols as children of a lineage, behind n of them that have these codes
+-- these symbols as children of a lineage, after n of them that have these codes
 abbrev pub numbered : Numbering → ℕ → List ℕ → List ℕ → List (S.Symbol ℤ) → List Raw
 numbered g n before l [] = []
 numbered g n before l (x ∷ xs) = raw_of (l ++ number_at g n before (code_of x) ∷ []) x ∷ numbered g (n + 1) (code_of x ∷ before) l xs
@@ -112,7 +112,7 @@ children_from s t x p n (Pop l ∷ rest) = children_from s t x (p + 1) n rest an
 children_from s t x p n (Module l m ∷ rest) =
     fault_at t (n + 1) (successor s t x p l m) and_then λ ys. children_from s t x (p + 1) (n + 1) rest and_then λ more. Ok (children s.numbering l ys ++ more)
 
--- the level behind level t, or the leftmost fault of level t
+-- the level after level t, or the leftmost fault of level t
 abbrev pub next_level : System → ℕ → List LevelSymbol → Result (List LevelSymbol) LevelRefusal
 next_level s t x = children_from s t x 0 0 x and_then λ raws. Ok (cut raws)
 

@@ -17,7 +17,7 @@ code_of Push = 91
 code_of Pop = 93
 code_of Cut = 37
 
--- of a symbol with this code, behind n symbols with these codes: how many, or its code and how many have it, too
+-- of a symbol with this code, after n symbols with these codes: how many, or its code and how many have it, too
 abbrev pub number_at : Numbering → ℕ → List ℕ → ℕ → ℕ
 number_at by_place n before code = n
 number_at by_name n before code = number_base * code + count_by (λ c. c == code) before

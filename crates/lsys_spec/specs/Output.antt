@@ -4,7 +4,7 @@ use Rattle.lsys_syntax.specs.Lines.{lines_of, without_cr}
 use Rattle.lsys_spec.specs.Systems.{System, opening}
 use Rattle.lsys_spec.specs.Refusals.{Reply, refused_memory, is_long, is_passed_over}
 
--- want of memory may stand in place of every reply, but not of none, and not of that to a line which is too long
+-- lack of memory may stand in place of every reply, but not of none, and not of that to a line which is too long
 abbrev pub may_lack_memory : List ℕ → Bool
 may_lack_memory line = not (is_long line) && not (is_passed_over (without_cr line))
 
@@ -12,15 +12,15 @@ abbrev pub memory_or : Bool → System → Reply → Reply
 memory_or true s r = refused_memory s
 memory_or false s r = r
 
--- the reply to a line that may be refused for want of memory
+-- the reply to a line that may be refused for lack of memory
 abbrev pub reply_or_memory : (System → List ℕ → Reply) → Bool → System → List ℕ → Reply
 reply_or_memory answer lacks s line = memory_or (lacks && may_lack_memory line) s (answer s line)
 
--- a reply, and behind it what follows from its system, unless it ends the session
+-- a reply, and after it what follows from its system, unless it ends the session
 abbrev pub reply_followed : Reply → (System → List Reply) → List Reply
 reply_followed r rest = r ∷ elim r.ends [ true ↦ [] | false ↦ rest r.next ]
 
--- the replies to lines that are numbered from n on; those whose numbers are in M are refused for want of memory
+-- the replies to lines that are numbered from n on; those whose numbers are in M are refused for lack of memory
 abbrev pub replies_from : (System → List ℕ → Reply) → (ℕ → Bool) → ℕ → System → List (List ℕ) → List Reply
 replies_from answer M n s [] = []
 replies_from answer M n s (line ∷ lines) =
@@ -44,7 +44,7 @@ any_memory (r ∷ rs) = r.is_memory || any_memory rs
 abbrev pub none : ℕ → Bool
 none n = false
 
--- the system behind the replies; where there are none, the opening one
+-- the system after the replies; where there are none, the opening one
 abbrev pub last_system : List Reply → System
 last_system [] = opening
 last_system (r ∷ []) = r.next
@@ -62,7 +62,7 @@ abbrev pub any_end : List Reply → Bool
 any_end [] = false
 any_end (r ∷ rs) = r.ends || any_end rs
 
--- a `quit` of the script is heeded: it isn't refused for want of memory, and no heeded one stands before it
+-- a `quit` of the script is heeded: it isn't refused for lack of memory, and no heeded one stands before it
 abbrev pub quits : (System → List ℕ → Reply) → List ℕ → (ℕ → Bool) → Bool
 quits answer script M = any_end (out answer script M)
 

@@ -64,7 +64,7 @@ pub long_lines :
     run (59 ∷ (replicate 65535 97 ++ 10 ∷ (59 ∷ (replicate 65535 97 ++ codes "\r\nstring\n")))) ≡ codes "refused syntax long\n\n"
 long_lines = refl
 
--- want of memory changes nothing, and stands in for every reply but that to a long line and none
+-- lack of memory changes nothing, and stands in for every reply but that to a long line and none
 pub lack_of_memory :
     output_text (out (reply usual_module_limit) (codes "axiom A\naxiom B\n;\n \nstring\nquit\nx\n") (λ n. (n == 2) || ((n == 3) || (n == 4 || n == 6))))
     ≡ codes "ok 0/0\nrefused memory\nA\nrefused memory\nrefused syntax token 1\n"
@@ -144,7 +144,7 @@ unfolding digits
 another_sample = refl
 
 -- Of three accepted edits the third asks one question, which reads one entry, and here an edit visits as many entries as there are
--- levels; two edits are refused, one for its levels and one for want of memory; behind `quit` nothing counts.
+-- levels; two edits are refused, one for its levels and one for lack of memory; after `quit` nothing counts.
 pub costs :
     script_cost (reply 4) (line_cost (λ old new xs ys. length ys) 4)
     (codes "axiom BA\nproduction a: B<A => B\ndepth 1\nstring\ndepth 2\ndepth 0\n\nquit\ndepth 0\n") (λ n. n == 6)

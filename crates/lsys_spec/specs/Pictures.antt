@@ -132,7 +132,7 @@ with_segment None r = r
 with_segment (Some g) (Ok gs) = Ok (g ∷ gs)
 with_segment (Some g) (Err n) = Err n
 
--- a step at module number n, and what follows from the turtle behind it
+-- a step at module number n, and what follows from the turtle after it
 abbrev pub and_on : ℕ → Option Stepped → (Turtle → Result (List Segment) ℕ) → Result (List Segment) ℕ
 and_on n None rest = Err n
 and_on n (Some s) rest = with_segment s.segment (rest s.turtle)

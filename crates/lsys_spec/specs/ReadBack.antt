@@ -22,12 +22,12 @@ abbrev pub then_command : System → Option Command → Option System
 then_command s None = None
 then_command s (Some c) = accepted_system (apply s c)
 
--- the system behind a line; None where the line is no command or its command is refused
+-- the system after a line; None where the line is no command or its command is refused
 abbrev pub read_line : Option System → List ℕ → Option System
 read_line None line = None
 read_line (Some s) line = then_command s (spelled_by (tokens line))
 
--- the system behind lines that are all commands and all accepted
+-- the system after lines that are all commands and all accepted
 abbrev pub read_lines : Option System → List (List ℕ) → Option System
 read_lines o [] = o
 read_lines o (line ∷ lines) = read_lines (read_line o line) lines

@@ -7,7 +7,7 @@ use Rattle.lsys_spec.specs.Output.{run_with}
 abbrev run : List ℕ → List ℕ
 run = run_with (reply 100000)
 
--- the column behind the line's end
+-- the column after the line's end
 pub unclosed_branch :
     run (codes "production p: A => [B\n")
     ≡ codes "refused syntax token 22\n"
@@ -187,14 +187,14 @@ pub passed_over :
 unfolding digits
 passed_over = refl
 
--- nothing behind `quit` is a command
+-- nothing after `quit` is a command
 pub end_of_session :
     run (codes "axiom A\nquit\nstring\n")
     ≡ codes "ok 0/0\n"
 unfolding digits
 end_of_session = refl
 
--- behind `<` stands one pattern
+-- after `<` stands one pattern
 pub second_predecessor :
     run (codes "production p: A < B C => D\nproduction p: A B < C => D\n")
     ≡ codes "refused syntax token 21\nok 0/0\n"

@@ -10,7 +10,7 @@ use Rattle.lsys_spec.specs.Choice.{Fault, Arithmetic, NegativeWeight, WeightTota
 use Rattle.lsys_spec.specs.Meaning as M
 use Rattle.lsys_spec.specs.Images.{ImageRefusal, ImageFault, ImageLimit}
 
--- a text, the system after it, whether it is a refusal, whether for want of memory, and whether the session ends
+-- a text, the system after it, whether it is a refusal, whether for lack of memory, and whether the session ends
 pub record Reply : Type 0 where
   pub text : List ℕ
   pub next : System

@@ -17,7 +17,7 @@ abbrev pub mirrored : List ℕ → List ℕ
 mirrored [] = []
 mirrored (x ∷ xs) = mirrored xs ++ x ∷ []
 
--- the rows of these, one behind the other
+-- the rows of these, one after the other
 abbrev pub flat : (ℕ → List ℕ) → List ℕ → List ℕ
 flat f [] = []
 flat f (x ∷ xs) = f x ++ flat f xs

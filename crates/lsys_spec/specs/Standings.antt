@@ -20,7 +20,7 @@ abbrev pub before_place : List LevelSymbol → ℕ → Option LevelSymbol
 before_place x zero = None
 before_place x (suc p) = slice_get x p
 
--- the mate of an open bracket, by the items from it on; that of a bracket that ends a branch, by the way behind it (A level is balanced, so each has one.)
+-- the mate of an open bracket, by the items from it on; that of a bracket that ends a branch, by the way after it (A level is balanced, so each has one.)
 abbrev pub mate_ahead : Items → Option (List ℕ)
 mate_ahead Nothing = None
 mate_ahead (One s r) = None

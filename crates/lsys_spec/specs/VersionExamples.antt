@@ -76,6 +76,6 @@ pub numbers_by_name :
     ≡ 266240 ∷ 372736 ∷ 176128 ∷ 266241 ∷ 380928 ∷ 26138140672 ∷ 151552 ∷ 372737 ∷ 380929 ∷ []
 numbers_by_name = refl
 
--- a key below a number by places is one word behind, below a number by names two
+-- a key below a number by places is one word after, below a number by names two
 pub keys : key_of 5 (3 ∷ 266241 ∷ []) ≡ word ((word ((word 9 + 1 + 65) % 2 ^ 64) + 1 + 1) % 2 ^ 64)
 keys = refl

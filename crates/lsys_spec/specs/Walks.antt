@@ -64,7 +64,7 @@ fits q s = false
 abbrev pub Found : Type 0
 Found = Option (List ModuleValue)
 
--- the modules that were found, and behind them this one
+-- the modules that were found, and after them this one
 abbrev pub behind : LevelSymbol → Told Found → Told Found
 behind s t = record t { answer = option_map (λ ms. ms ++ modules s) t.answer }
 

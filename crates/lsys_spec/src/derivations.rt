@@ -8,7 +8,7 @@ pub fn law_of_context_free_successors()
 {}
 
 /// Without contexts and weights a level, before its cut, comes from the level before by a morphism: each letter gives
-/// the string that it would give alone, and the strings stand one behind the other. A fault of one is the other's.
+/// the string that it would give alone, and the strings stand one after the other. A fault of one is the other's.
 pub fn law_of_morphisms()
     ensures level { LevelsAreMadeByAMorphism }
     ensures letter_by_letter { StringsAreRewrittenLetterByLetter }

@@ -1,9 +1,9 @@
-//! Laws of sessions: what was answered stays answered, and what a line leaves behind.
+//! Laws of sessions: what was answered stays answered, and what a line leaves after.
 
 ghost use Rattle.lsys_spec.specs.AnsweredLines.{FrontsAreAnsweredAlike, NothingIsAnsweredBehindTheEnd, RefusedLinesLeaveTheSystem, QueriesLeaveTheSystem, AcceptedEditsLeaveWhatTheyMake};
 
-/// What stands behind a whole line changes none of the replies up to it: the replies to a front of whole lines are a
-/// front of the replies. Behind a `quit` that is heeded nothing is answered.
+/// What stands after a whole line changes none of the replies up to it: the replies to a front of whole lines are a
+/// front of the replies. After a `quit` that is heeded nothing is answered.
 pub fn law_of_fronts()
     ensures front { FrontsAreAnsweredAlike }
     ensures ended { NothingIsAnsweredBehindTheEnd }

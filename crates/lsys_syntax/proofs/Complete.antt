@@ -31,7 +31,7 @@ abbrev pub leave_expr : Expr → Around → ExpressionState
 leave_expr (only_and a) k = leave_and a (first_and k)
 leave_expr (or e a) k = leave_and a (next_and e k)
 
--- A step that does so behind an atom does so behind each part.
+-- A step that does so after an atom does so after each part.
 abbrev pub Does : (ExpressionState → ExpressionState) → AfterAtom → Type 0
 Does g f = (a : Atom) (k : InUnary) → g (Have a k) ≡ after_atom f a k
 
@@ -154,7 +154,7 @@ parse-kinds e =
     ap (run (start_expr no_parens)) (sym (append-nil (expr_kinds e))) ∙ read-expr e no_parens [] in
     ap (λ s. finished (end_step s)) whole ∙ ap finished (expr_left end_step other (λ a j. refl) e no_parens)
 
--- behind a whole expression, a token that can't go on with it ends it
+-- after a whole expression, a token that can't go on with it ends it
 pub other-ends : (t : Kind) → what_follows t ≡ expr_step other → (e : Expr) → step (leave_expr e no_parens) t ≡ Done e
 other-ends t h e = expr_left (λ s. step s t) other (λ a k. ap (λ f. after_atom f a k) h) e no_parens
 

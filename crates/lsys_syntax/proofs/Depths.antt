@@ -14,7 +14,7 @@ within-append b (t ∷ ts) us s h k = (h.0, within-append b ts us (step s t) h.1
 then : (b : ℕ) (s s' : ExpressionState) (t : Kind) (ts : List Kind) → step s t ≡ s' → depth s' ≤ b → StaysWithin b s' ts → StaysWithin b s (t ∷ ts)
 then b s s' t ts e d h = rw e (d, h)
 
--- a part, an operator behind it, and what follows
+-- a part, an operator after it, and what follows
 after : (b : ℕ) (ts us : List Kind) (s s' : ExpressionState) → run s ts ≡ s' → StaysWithin b s ts → StaysWithin b s' us → StaysWithin b s (ts ++ us)
 after b ts us s s' e h k = within-append b ts us s h (subst (λ x. StaysWithin b x us) (sym e) k)
 

@@ -104,7 +104,7 @@ live-before (t ∷ ts) (E.HalfOr e k) h = tt
 live-before (t ∷ ts) (E.Done e) h = subst IsLive (stopped ts) h
 live-before (t ∷ ts) E.Stop h = subst IsLive (stopped ts) h
 
--- the state behind a whole expression is live
+-- the state after a whole expression is live
 live-unary : (u : Unary) (k : E.InUnary) → IsLive (leave_unary u k)
 live-unary (negated u) k = live-unary u (E.negating k)
 live-unary (inverted u) k = live-unary u (E.inverting k)

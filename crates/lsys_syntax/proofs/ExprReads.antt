@@ -5,11 +5,11 @@ use Rattle.lsys_syntax.specs.Pieces.{Piece, token, note, expr_ends, Tail, anythi
 use Rattle.lsys_syntax.proofs.StringsRead.{mark-reads}
 use Rattle.lsys_syntax.specs.Expressions.{TermOp, multiply, divide, remainder, SumOp, add, subtract, RelOp, equal, unequal, less, at_most, greater, at_least, Expr, only_and, or, And, only_rel, and, Rel, only_sum, compare, Sum, only_term, total, Term, only_unary, product, Unary, negated, inverted, only_atom, raised, Atom, number, name, parens, term_kind, sum_kind, rel_kind, expr_kinds, and_kinds, rel_kinds, sum_kinds, term_kinds, unary_kinds, atom_kinds, IsExpr, IsAnd, IsRel, IsSum, IsTerm, IsUnary, IsAtom, expr_pieces}
 
--- behind such a token an operand may stand
+-- after such a token an operand may stand
 abbrev pub Opens : Tail → Type 0
 Opens t = (may_follow t letter ≡ true) × (may_follow t digit ≡ true)
 
--- what may stand behind an operand
+-- what may stand after an operand
 abbrev pub AfterOperand : List Piece → Type 0
 AfterOperand ps = (t : Tail) → may_follow t equals ≡ true → Reads Modules t ps
 

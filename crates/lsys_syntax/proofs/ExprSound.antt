@@ -51,7 +51,7 @@ Good (HalfOr e k) = IsExpr e × GoodAround k
 Good (Done e) = Unit {0}
 Good Stop = Unit {0}
 
--- behind the tokens ts a state is good, and where it is done, its tree is one of them
+-- after the tokens ts a state is good, and where it is done, its tree is one of them
 abbrev pub Ends : ℕ → ExpressionState → List Kind → Type 0
 Ends b (Done e) ts = (expr_kinds e ≡ ts) × IsExpr e × (expr_nesting e ≤ b)
 Ends b s ts = Good s
@@ -124,7 +124,7 @@ step-ends b (HalfOr e k) t o f g = tt
 step-ends b (Done e) t o f g = tt
 step-ends b Stop t o f g = tt
 
--- What is known behind the tokens ts and the token t: where the state is done, t is left for what follows.
+-- What is known after the tokens ts and the token t: where the state is done, t is left for what follows.
 abbrev pub After : ℕ → ExpressionState → List Kind → Kind → Type 0
 After b (Done e) ts t = (expr_kinds e ≡ ts) × IsExpr e × (expr_nesting e ≤ b)
 After b Stop ts t = Unit {0}

@@ -18,7 +18,7 @@ use Rattle.lsys_syntax.proofs.ExprLeads.{IsSmall, expr-small}
 use Rattle.lsys_syntax.proofs.LineSound.{not_deep}
 use Rattle.lsys_syntax.proofs.Places.{tokens-front, is_deep}
 
--- the state behind some tokens
+-- the state after some tokens
 abbrev runs : ExpressionState → List Kind → ExpressionState
 runs s ks = run s (map small ks)
 
@@ -236,7 +236,7 @@ smalls-front (k ∷ ks) js h = (h.0, smalls-front ks js h.1)
 front-small : (ks rest : List Kind) (e : Expr) → IsExpr e → expr_kinds e ≡ ks ++ rest → map small ks ≡ ks
 front-small ks rest e g q = smalls ks (smalls-front ks rest (subst (EachOf IsSmall) q (expr-small e g)))
 
--- No expression begins with tokens behind which it is over.
+-- No expression begins with tokens after which it is over.
 over-none : (ks : List Kind) → IsOver (runs (start_expr no_parens) ks) → BeginsAnyExpression ks → ⊥
 over-none ks h g =
     let e : Expr = g.1.1.0 in
@@ -378,7 +378,7 @@ deep-goes ks d g q = taken-begins-any (take (suc d) ks) (tokens-front (suc d) ks
 pub ends-read : (ks : List Kind) (d : ℕ) (e : Expr) → extent ks ≡ ends d e → read_expr (take d ks) ≡ Some e
 ends-read ks d e q = ap finished (at ks (ends d e) q).2.1
 
--- Behind a whole expression an operand was read.
+-- After a whole expression an operand was read.
 abbrev Has : ExpressionState → Type 0
 Has s = (a : Atom) × (k : InUnary) × (s ≡ Have a k)
 
@@ -460,7 +460,7 @@ whole-found e rest g n h =
     ∙ ap (λ s. extent_from (length ks) s rest) last
     ∙ whole-ends e (length ks) rest h
 
--- Where the machine stops behind a whole expression, the token is a comparison.
+-- Where the machine stops after a whole expression, the token is a comparison.
 abbrev MayStop : AfterUnary → Type 0
 MayStop (ends_term (ends_sum (comparing op))) = Unit {0}
 MayStop (ends_term (ends_sum (ends_rel (ends_and (ends_expr other))))) = Unit {0}
@@ -513,7 +513,7 @@ have-compares Bar a u e q h = absurd (operand-stops (ends_term (ends_sum (ends_r
 have-compares RightParen a u e q h = absurd (operand-stops (ends_term (ends_sum (ends_rel (ends_and (ends_expr closing))))) (only_atom a) u q)
 have-compares k a u e q h = absurd (other-stops k a u e (small-follows k refl) q h)
 
--- A token at which the machine stops behind a whole expression is a comparison.
+-- A token at which the machine stops after a whole expression is a comparison.
 pub stop-compares : (s : ExpressionState) (k : Kind) (e : Expr) → step s (small k) ≡ Stop → end_step s ≡ Done e → IsComparison k
 stop-compares (Due u) k e q h = cc
 stop-compares (Have a u) k e q h = have-compares k a u e q h

@@ -86,7 +86,7 @@ completed-nesting b (HalfOr e k) g f = fill_around-nesting b (or e (only_rel (on
 completed-nesting b (Done e) g f = elim g [ ]
 completed-nesting b Stop g f = elim g [ ]
 
--- behind an operand only ^ goes deeper
+-- after an operand only ^ goes deeper
 after_expr-fits : (b : ℕ) (f : AfterExpr) (e : Expr) (k : Around) → around_depth k + expr_nesting e ≤ b → FitsAround b k → Fits b (after_expr f e k)
 after_expr-fits b closing e no_parens h g = tt
 after_expr-fits b closing e (in_parens k) h g = (omega (arith, h), g)

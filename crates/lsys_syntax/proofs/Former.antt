@@ -1,4 +1,4 @@
--- Behind a first token that is no word of version 2 alone, the language is that of version 1.
+-- After a first token that is no word of version 2 alone, the language is that of version 1.
 use Rattle.std.proofs.Common.{◌≡◌, ℕ, zero, suc, Bool, true, false, ◌+◌, ◌||◌, Option, Some, None, Result, Err, List, [], ◌∷◌, ◌++◌, bytes_eq, codes, refl, ap, ◌∙◌, if◌then◌else◌, arith}
 use Rattle.lsys_syntax.specs.Tokens.{Kind, Word, Colon, Token, Mode, First, Words, UntilColon, Modules, is_blank, token_at, after_word, next_mode, before_rest, tokens_from, tokens}
 use Rattle.lsys_syntax.specs.Pieces.{kinds_of}
@@ -82,7 +82,7 @@ former_behind Modules k = tt
 abbrev later_here : Bool → Option (Kind × ℕ) → Bool → Bool
 later_here blank o rest = if blank then rest else is_later_token o
 
--- one token or blank, and what is read behind it
+-- one token or blank, and what is read after it
 abbrev read_step : Bool → Option (Kind × ℕ) → ℕ → Result (List Token) ℕ → (Kind × ℕ → Result (List Token) ℕ) → Result (List Token) ℕ
 read_step b o p skip rest = elim b [
   | true ↦ skip
@@ -104,7 +104,7 @@ one_step m p bytes false (Some t) k skip rest =
     ap (λ j. before_rest (record { kind = t.0; start = p; stop = p + 1 + t.1 }) (tokens_from j t.1 (p + 1) bytes)) next
     ∙ ap (before_rest (record { kind = t.0; start = p; stop = p + 1 + t.1 })) (rest (former_next_mode m t.0) t.1 (former_behind m t.0))
 
--- from a mode behind the first token, or before a first token that is no word of version 2 alone
+-- from a mode after the first token, or before a first token that is no word of version 2 alone
 first_behind : {A : Type 0} (m : Mode) → Behind m → m ≡ First → A
 first_behind First h e = elim h [ ]
 first_behind UntilColon h e = cc

@@ -20,7 +20,7 @@ reversed-back (x ∷ xs) r s = reversed-back xs (x ∷ r) s
 pub twice : {A : Type 0} → (xs : List A) → reversed (reversed_onto xs []) ≡ xs
 twice xs = reversed-back xs [] [] ∙ append-nil xs
 
--- one is put behind, and then the list is turned round
+-- one is put after, and then the list is turned round
 pub reversed-one : {A : Type 0} → (x : A) (xs : List A) → reversed (reversed_onto xs (x ∷ [])) ≡ x ∷ xs
 reversed-one x xs = reversed-back xs (x ∷ []) [] ∙ ap (λ ys. x ∷ ys) (append-nil xs)
 
@@ -61,7 +61,7 @@ balanced-next Cut xs r b = (tt, b)
 is_zero : (n : ℕ) → (n == 0) ≡ true → n ≡ 0
 is_zero n h = grind (arith, nat_tests)
 
--- nothing is open behind a balanced string
+-- nothing is open after a balanced string
 pub none_open : {P : Type 0} → (xs r : List (Symbol P)) → balanced (open_in r) xs ≡ true → open_in (reversed_onto xs r) ≡ 0
 none_open [] r b = is_zero (open_in r) b
 none_open (x ∷ xs) r b = none_open xs (x ∷ r) (balanced-next x xs r b).1

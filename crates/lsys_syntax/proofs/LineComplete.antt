@@ -215,7 +215,7 @@ module _ (b : ℕ) where
   command-leads (set_numbering by_place) g h = (Whole (set_numbering by_place), (tt, (tt, refl)), refl)
   command-leads (set_numbering by_name) g h = (Whole (set_numbering by_name), (tt, (tt, refl)), refl)
 
--- the state behind some tokens
+-- the state after some tokens
 abbrev pub run : State → List Kind → State
 run s [] = s
 run s (k ∷ ks) = run (line_step s k) ks

@@ -1,4 +1,4 @@
--- What holds of a line's state behind the tokens that it has taken.
+-- What holds of a line's state after the tokens that it has taken.
 use Rattle.std.proofs.Common.{◌≡◌, ℕ, zero, suc, Bool, true, false, ◌≤◌, ◌<◌, ◌^◌, Option, Some, None, List, [], ◌∷◌, ◌++◌, map, bytes_eq, codes, nat_lt, nat_le, refl, ap, ◌∙◌, sym, subst, append_assoc, arith, if◌then◌else◌}
 use Rattle.std.proofs.lemmas.Bool.Decides.{nat_tests}
 use Rattle.std.proofs.lemmas.Slice.Eq.{bytes_eq-Decides}
@@ -133,7 +133,7 @@ numbering-holds b w =
     if-word P w (codes "places") _ _ (λ e. (same (codes "places") e, tt, omega arith))
     (if-word P w (codes "names") _ _ (λ e. (same (codes "names") e, tt, omega arith)) tt)
 
--- a token behind those that are known
+-- a token after those that are known
 pub behind : (ks ts : List Kind) (k : Kind) → ks ≡ ts → ks ++ k ∷ [] ≡ ts ++ k ∷ []
 behind ks ts k e = ap (λ x. x ++ k ∷ []) e
 

@@ -87,7 +87,7 @@ begins-near b ks g =
     let l : Spells b g.0 = command-leads b g.0 g.2.1 g.2.2 in
     near-last b ks Fresh (omega arith) (near-front b ks g.1 Fresh (subst (AllNear b Fresh) g.2.0 (leads-near b (command_pieces g.0) Fresh l.0 l.1)))
 
--- Where the reading stops: at its first token that isn't taken, or behind all of them.
+-- Where the reading stops: at its first token that isn't taken, or after all of them.
 abbrev Blocked : State → List Kind → ℕ → Type 0
 Blocked s [] zero = finish s ≡ None
 Blocked s [] (suc j) = ⊥

@@ -71,7 +71,7 @@ Allowed (at_right l n fs) s = IsItem s
 Allowed at_first s = IsPattern s
 Allowed (at_predecessor l) s = ⊥
 
--- patterns stand one behind another but as a predecessor
+-- patterns stand one after another but as a predecessor
 several : (p : Part) (r : List (Symbol NameText)) (x : Symbol NameText) (s : RuleState) → Allowed p x → one_more production p r s ≡ s
 several p [] x s a = refl
 several at_first (y ∷ r) x s a = refl
@@ -126,7 +126,7 @@ left-leads production b (x ∷ xs) o h =
     (string-formals b (x ∷ xs) at_first h (patterns-balanced (x ∷ xs) h))
     (leads-token (rule_step production) (Shallow b) Less (blank ∷ []) (Formals at_first read) (Formals (at_predecessor (x ∷ xs)) []) (Formals (at_predecessor (x ∷ xs)) []) e tt refl)
 
--- behind the right context, which there may be
+-- after the right context, which there may be
 abbrev right_behind : List (Symbol NameText) → ModuleName → List NameText → List (Symbol NameText) → RuleState
 right_behind l n fs [] = Formals (part_behind l) (Module n fs ∷ [])
 right_behind l n fs (x ∷ xs) = Formals (at_right l n fs) (reversed_onto (x ∷ xs) [])
@@ -142,7 +142,7 @@ right-leads production b l n fs (x ∷ xs) o h e =
     leads-token (rule_step production) (Shallow b) Greater (blank ∷ note right_begins ∷ string_pieces formal_pieces (x ∷ xs)) (Formals (part_behind l) (Module n fs ∷ [])) (Formals (at_right l n fs) []) (Formals (at_right l n fs) (reversed_onto (x ∷ xs) []))
     (right-begins l n fs) tt (string-formals b (x ∷ xs) (at_right l n fs) h e)
 
--- the head that stands behind the contexts
+-- the head that stands after the contexts
 abbrev head_in : RuleState → Option Head
 head_in (Formals p r) = head_of p r
 head_in s = None
@@ -158,7 +158,7 @@ head-behind (y ∷ ys) n fs [] e = refl
 head-behind l n fs (x ∷ xs) e = right-head l n fs xs [] x (none_open (x ∷ xs) [] e) ∙ ap (λ rs. Some (record { left = l; name = n; formals = fs; right = rs })) (twice (x ∷ xs))
 
 module _ (m : Form) (b : ℕ) where
-  -- an expression, and behind it a token that ends it
+  -- an expression, and after it a token that ends it
   expr-to : (e : Expr) (spot : Spot) (t : Kind) (ps : List Piece) (s u : RuleState) → IsExpr e → expr_nesting e ≤ b → small t ≡ t → E.what_follows t ≡ E.expr_step E.other → done_step m t spot e ≡ s → Shallow b s → Lead m b s ps u
       → Lead m b (InExpr spot expr_start) (expr_pieces e ++ blank ∷ token t ∷ ps) u
   expr-to e spot t ps s u g n k o d f l =

@@ -1,4 +1,4 @@
--- What holds of a rule's state behind the tokens that it has taken.
+-- What holds of a rule's state after the tokens that it has taken.
 use Rattle.std.proofs.Common.{◌≡◌, ℕ, true, ◌≤◌, None, List, [], ◌∷◌, ◌++◌, refl}
 use Rattle.lsys_syntax.specs.Tokens.{NameText, Kind, Name, Arrow, LeftBracket, RightBracket, Colon, At, Plus, Minus, Slash, Backslash, Percent, Ampersand, Bar, Caret, Bang, Greater}
 use Rattle.lsys_syntax.specs.Pieces.{kinds_of, IsNameText}

@@ -123,7 +123,7 @@ IsInside E.Stop = ⊥
 IsInside s = Unit {0}
 
 module _ (m : Form) (spot : Spot) (b : ℕ) (all : List Kind) where
-  -- the end of an expression behind which no rule goes on
+  -- the end of an expression after which no rule goes on
   stops-behind : (n : ℕ) (x : E.ExpressionState) → ((e : Expr) → x ≡ E.Done e → point_from m (b + n) (after_expr spot e) (drop n all) ≡ stops (b + n)) → stops (b + n) ≡ by_extent m spot b all (at_end n x)
   stops-behind n (E.Done e) h = sym (h e refl)
   stops-behind n (E.Due k) h = refl
@@ -135,7 +135,7 @@ module _ (m : Form) (spot : Spot) (b : ℕ) (all : List Kind) where
   inside-end : (s : E.ExpressionState) (n : ℕ) → drop n all ≡ [] → stops (b + n) ≡ by_extent m spot b all (at_end n (E.end_step s))
   inside-end s n d = stops-behind n (E.end_step s) (λ e q. ap (point_from m (b + n) (after_expr spot e)) d)
 
-  -- No rule goes on with a comparison behind a whole expression.
+  -- No rule goes on with a comparison after a whole expression.
   comparison-stops : (k : Kind) (e : Expr) → IsComparison k → done_step m k spot e ≡ Stop
   comparison-stops Equal e h = refl
   comparison-stops Unequal e h = refl
@@ -192,7 +192,7 @@ inside-from m spot b (k ∷ ks) all n s h e =
     inside-step m spot b all s (E.step s (small k)) k ks n (extent_from (n + 1) (E.step s (small k)) ks) refl e
     (λ i. ap (λ j. rule_from m j (InExpr spot (E.step s (small k))) ks) (omega arith) ∙ inside-from m spot b ks all (n + 1) (E.step s (small k)) i (drop-next n all k ks e))
 
--- A rule with an expression next goes on behind the expression's extent.
+-- A rule with an expression next goes on after the expression's extent.
 pub rule-expr : (m : Form) (spot : Spot) (n : ℕ) (ks : List Kind) → point_from m n (at_state (InExpr spot expr_start)) ks ≡ by_extent m spot n ks (extent ks)
 rule-expr m spot n ks =
     state-point m n (InExpr spot expr_start) ks ∙ ap (λ j. rule_from m j (InExpr spot expr_start) ks) (omega arith) ∙ inside-from m spot n ks ks 0 expr_start tt refl

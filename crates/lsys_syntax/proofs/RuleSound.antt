@@ -12,12 +12,12 @@ use Rattle.lsys_syntax.proofs.ExprSound as G
 use Rattle.lsys_syntax.proofs.StringKinds.{kinds-append, each-reversed, spelled_symbol, spelled_string, taken, string-one, taken-more, params_before, params-closed, nests-closed}
 use Rattle.lsys_syntax.proofs.RuleHolds.{part_kinds, head_kinds, body_kinds, spot_kinds, OnlyProduction, StandsIn, HasRoom, GoodSymbols, GoodHead, GoodBody, GoodSpot, Holds, IsSignOf, sign-is}
 
--- one more symbol behind a front
+-- one more symbol after a front
 pub symbol-more : {P : Type 0} → (print : P → List Piece) (front ts : List Kind) (x : Symbol P) (r : List (Symbol P)) → front ++ taken print r ≡ ts → front ++ taken print (x ∷ r) ≡ ts ++ spelled_symbol print x
 symbol-more print front ts x r e =
     ap (λ ks. front ++ ks) (taken-more print x r) ∙ sym (append_assoc front (taken print r) (spelled_symbol print x)) ∙ ap (λ ks. ks ++ spelled_symbol print x) e
 
--- a `(` behind the last module
+-- a `(` after the last module
 pub paren-opens : {P : Type 0} → (print : P → List Piece) (front ts : List Kind) (n : ModuleName) (r : List (Symbol P)) → front ++ taken print (Module n [] ∷ r) ≡ ts
     → front ++ (taken print r ++ name_kind n ∷ params_before print []) ≡ ts ++ LeftParen ∷ []
 paren-opens print front ts n r e =
@@ -25,7 +25,7 @@ paren-opens print front ts n r e =
     ∙ sym (append_assoc front (taken print (Module n [] ∷ r)) (LeftParen ∷ []))
     ∙ ap (λ ks. ks ++ LeftParen ∷ []) e
 
--- a `)` behind its last parameter
+-- a `)` after its last parameter
 pub paren-closes : {P : Type 0} → (print : P → List Piece) (front ts : List Kind) (n : ModuleName) (r : List (Symbol P)) (x : P) (xs : List P)
     → front ++ (taken print r ++ name_kind n ∷ (params_before print xs ++ kinds_of (print x))) ≡ ts
     → front ++ taken print (Module n (reversed (x ∷ xs)) ∷ r) ≡ ts ++ RightParen ∷ []
@@ -34,7 +34,7 @@ paren-closes print front ts n r x xs e =
     ∙ simp append_assoc refl
     ∙ ap (λ ks. ks ++ RightParen ∷ []) e
 
--- a `,` behind a parameter
+-- a `,` after a parameter
 pub comma-goes : {P : Type 0} → (print : P → List Piece) (front ts : List Kind) (n : ModuleName) (r : List (Symbol P)) (x : P) (xs : List P)
     → front ++ (taken print r ++ name_kind n ∷ (params_before print xs ++ kinds_of (print x))) ≡ ts
     → front ++ (taken print r ++ name_kind n ∷ params_before print (x ∷ xs)) ≡ ts ++ Comma ∷ []
@@ -148,7 +148,7 @@ greater-holds b (at_predecessor l) (Module n fs ∷ []) ts h = (
 )
 greater-holds b p r ts h = tt
 
--- The head that stands behind the contexts.
+-- The head that stands after the contexts.
 abbrev pub OnHead : Form → List Kind → Option Head → Type 0
 OnHead m ts None = Unit {0}
 OnHead m ts (Some h) = (head_kinds h ≡ ts) × GoodHead m h

@@ -6,7 +6,7 @@ use Rattle.lsys_syntax.specs.ExpressionMachine.{InUnary, negating, inverting, ra
 use Rattle.lsys_syntax.proofs.Complete.{leave_unary, leave_term, leave_sum, leave_rel, leave_and, leave_expr, read-expr}
 use Rattle.lsys_syntax.specs.Completions.{before_unary, before_term, before_sum, before_rel, before_and, before_expr, before, spelled, closing_unary, closing_term, closing_sum, closing_rel, closing_and, closing_expr, closing_around, completion, fill_unary, fill_term, fill_sum, fill_rel, fill_and, fill_expr, fill_around, completed}
 
--- front, an operator behind its left side, and what follows
+-- front, an operator after its left side, and what follows
 pub three : (b l t : List Kind) (m : Kind) → (b ++ (l ++ m ∷ [])) ++ t ≡ b ++ (l ++ m ∷ t)
 three b l t m = append_assoc b (l ++ m ∷ []) t ∙ ap (λ x. b ++ x) (append_assoc l (m ∷ []) t)
 
@@ -154,7 +154,7 @@ after_atom-keeps : (f : AfterAtom) (a : Atom) (k : InUnary) → Keeps (after_ato
 after_atom-keeps powering a k = sym (append_assoc (before_unary k) (atom_kinds a) (Caret ∷ []))
 after_atom-keeps (ends_unary f) a k = subst (Keeps (after_operand f (only_atom a) k)) (sym (append_assoc (before_unary k) (atom_kinds a) (told_unary f))) (after_operand-keeps f (only_atom a) k)
 
--- no other token goes on behind an operand
+-- no other token goes on after an operand
 abbrev pub IsOver : ExpressionState → Type 0
 IsOver (Done e) = Unit {0}
 IsOver Stop = Unit {0}

@@ -69,7 +69,7 @@ module _ {P : Type 0} (print : P → List Piece) where
   pub taken-more : (x : Symbol P) (r : List (Symbol P)) → taken (x ∷ r) ≡ taken r ++ spelled_symbol x
   taken-more x r = ap spelled_string (reversed-more x r) ∙ string-append (reversed r) (x ∷ []) ∙ ap (λ ks. taken r ++ ks) (string-one x)
 
-  -- `(` and the parameters that were read, the last one first, each with a `,` behind it
+  -- `(` and the parameters that were read, the last one first, each with a `,` after it
   abbrev pub params_before : List P → List Kind
   params_before [] = LeftParen ∷ []
   params_before (x ∷ xs) = params_before xs ++ (kinds_of (print x) ++ Comma ∷ [])
@@ -90,7 +90,7 @@ module _ {P : Type 0} (print : P → List Piece) where
       ∙ ap (λ ks. params_before ws ++ ks) (sym (append_assoc (kinds_of (print w)) (Comma ∷ []) (kinds_of (print x) ++ closed_by ys)))
       ∙ sym (append_assoc (params_before ws) (kinds_of (print w) ++ Comma ∷ []) (kinds_of (print x) ++ closed_by ys))
 
-  -- the parameters are closed behind the last one
+  -- the parameters are closed after the last one
   pub params-closed : (xs : List P) (x : P) → kinds_of (params_pieces print (reversed (x ∷ xs))) ≡ params_before xs ++ (kinds_of (print x) ++ RightParen ∷ [])
   params-closed xs x = params-onto xs [] x
 

@@ -23,7 +23,7 @@ mark-follows not_equals = refl
 pub mark-reads : (k : Kind) → beginning k ≡ mark → Stands Modules k → (t : Tail) (ps : List Piece) → Reads Modules (ending k) ps → Reads Modules t (token k ∷ ps)
 mark-reads k e s t ps h = (rw e (mark-follows t), s, h)
 
--- what a symbol leaves behind itself
+-- what a symbol leaves after itself
 abbrev pub symbol_tail : {P : Type 0} → Symbol P → Tail
 symbol_tail (Module n []) = ending (name_kind n)
 symbol_tail s = anything
@@ -39,7 +39,7 @@ name-reads slash g t f ps h = mark-reads (name_kind slash) refl tt t ps h
 name-reads bar g t f ps h = mark-reads (name_kind bar) refl tt t ps h
 name-reads bang g t f ps h = mark-reads (name_kind bang) refl tt t ps h
 
--- a letter may stand directly behind every symbol but a name with a `_`
+-- a letter may stand directly after every symbol but a name with a `_`
 letter-follows : {P : Type 0} → (s : Symbol P) → ends_in_name s ≡ false → may_follow (symbol_tail s) letter ≡ true
 letter-follows (Module (named (short c)) []) e = refl
 letter-follows (Module (named (long c more)) []) e = cc

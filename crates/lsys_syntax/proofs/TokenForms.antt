@@ -39,7 +39,7 @@ number-form ds = either IsToken (nat_lt (digits_value 10 ds) (2 ^ 64)) (Number (
 word-form : (c : ℕ) (cs : List ℕ) → is_letter c ≡ true → Every is_word_byte cs → IsToken (word_kind (c ∷ cs))
 word-form c cs l h = either IsToken (nat_le (length (c ∷ cs)) 16) (Word (c ∷ cs)) LongWord (λ e. (l, h, at_most (length (c ∷ cs)) 16 e)) (λ e. tt)
 
--- what stands behind a name's letter
+-- what stands after a name's letter
 abbrev IsNameTail : List ℕ → Type 0
 IsNameTail more = Every is_alphanumeric more × (length more ≤ 6)
 

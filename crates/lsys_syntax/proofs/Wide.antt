@@ -58,7 +58,7 @@ not-wide c n (token k ∷ ps) h =
     let two = both (nat_lt d.most d.symbols || nat_lt most_params d.params) (nat_lt most_expression_tokens d.expr_tokens) one.0 in
     neither (nat_lt c.most c.symbols || nat_lt most_params c.params) (wide c.symbols c.most c.params ps) two.0 (not-wide d (n + 1) ps u.1)
 
--- what stands behind, whatever the parameters of the last symbol are
+-- what stands after, whatever the parameters of the last symbol are
 abbrev Behind : ℕ → ℕ → List Piece → Type 0
 Behind s m ps = (p : ℕ) × (wide s m p ps ≡ false)
 
@@ -142,7 +142,7 @@ few-option : (k : Kind) (o : Option Expr) (s m p : ℕ) (ps : List Piece) → wi
 few-option k None s m p ps h = h
 few-option k (Some e) s m p ps h = expr-counts e s m p ps (one-token k s m p (blank ∷ (expr_pieces e ++ ps)) h).2
 
--- what stands behind, whatever was counted
+-- what stands after, whatever was counted
 abbrev Later : List Piece → Type 0
 Later ps = (s : ℕ) × (m : ℕ) × (p : ℕ) × (wide s m p ps ≡ false)
 

@@ -38,7 +38,7 @@ great_value = refl
 pub least_value : is_sentence (line_verdict (codes "axiom A(-9223372036854775808)")) ≡ true
 least_value = refl
 
--- behind a left context stands one pattern
+-- after a left context stands one pattern
 pub two_predecessors : line_verdict (codes "production p: A < BC => D") ≡ Some (stops 6)
 two_predecessors = refl
 

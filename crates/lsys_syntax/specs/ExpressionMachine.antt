@@ -43,7 +43,7 @@ pub data ExpressionState : Type 0 where
   Done : Expr → ExpressionState
   Stop : ExpressionState
 
--- what a token does behind an operand, by the rule that it goes on or ends
+-- what a token does after an operand, by the rule that it goes on or ends
 pub data AfterExpr : Type 0 where
   closing : AfterExpr
   other : AfterExpr
@@ -146,7 +146,7 @@ abbrev pub around_expr : InExpr → Around
 around_expr (first_and k) = k
 around_expr (next_and e k) = k
 
--- The steps behind an operand of each rule. Outside of all parentheses an expression is done before a token that can't go on with it.
+-- The steps after an operand of each rule. Outside of all parentheses an expression is done before a token that can't go on with it.
 abbrev pub closed : Expr → Around → ExpressionState
 closed e no_parens = Done e
 closed e (in_parens k) = Have (parens e) k

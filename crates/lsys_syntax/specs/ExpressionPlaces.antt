@@ -47,7 +47,7 @@ abbrev pub at_end : ℕ → ExpressionState → Extent
 at_end n (Done e) = ends n e
 at_end n s = stops n
 
--- Behind token number n, which makes t of the state s. An expression is done before a token that can't go on with it; a
+-- After token number n, which makes t of the state s. An expression is done before a token that can't go on with it; a
 -- second comparison can't either, though the machine stops there.
 abbrev pub extent_behind : ℕ → ExpressionState → ExpressionState → Extent → Extent
 extent_behind n s (Done e) rest = ends n e

@@ -75,7 +75,7 @@ ExtentsAreReadAsTheirExpressions =
     (kinds : List Kind) (place : ℕ) (expr : Expr) → extent kinds ≡ ends place expr
     → read_expr (take place kinds) ≡ Some expr
 
--- the verdict on a line behind the colon of its label is that on its rule
+-- the verdict on a line after the colon of its label is that on its rule
 abbrev pub LinesGoOnAsTheirRules : Type 0
 LinesGoOnAsTheirRules =
     (line : Line) (kinds : List Kind) (place : ℕ) (state : rules.RuleState)

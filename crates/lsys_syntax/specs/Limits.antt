@@ -31,7 +31,7 @@ nesting_bound = 32
 abbrev pub most_expression_tokens : ℕ
 most_expression_tokens = 256
 
--- of those behind the `:` of its label
+-- of those after the `:` of its label
 abbrev pub most_rule_tokens : ℕ
 most_rule_tokens = 2048
 

@@ -149,7 +149,7 @@ Stands m BigNumber = ⊥
 Stands m Assign = ⊥
 Stands m k = Unit {0}
 
--- Behind a token that ends so, each piece is read as itself.
+-- After a token that ends so, each piece is read as itself.
 abbrev pub Reads : Mode → Tail → List Piece → Type 0
 Reads m t [] = Unit {0}
 Reads m t (blank ∷ ps) = Reads m anything ps

@@ -6,7 +6,7 @@ use Rattle.lsys_syntax.specs.Strings.{Symbol, AreSymbols, string_text, string_pi
 use Rattle.lsys_syntax.specs.Sentences.{AreTokens}
 use Rattle.lsys_syntax.specs.Commands.{Command, IsCommand, command_pieces}
 
--- a line printed from pieces, each of which may stand behind the one
+-- a line printed from pieces, each of which may stand after the one
 -- before, is read as their tokens, each at its place
 abbrev pub PrintedPiecesAreReadBack : Type 0
 PrintedPiecesAreReadBack =

@@ -20,7 +20,7 @@ reversed_onto (x ∷ xs) ys = reversed_onto xs (x ∷ ys)
 abbrev pub reversed : {A : Type 0} → List A → List A
 reversed xs = reversed_onto xs []
 
--- how many branches are open behind these symbols, the last one first
+-- how many branches are open after these symbols, the last one first
 abbrev pub open_in : {P : Type 0} → List (Symbol P) → ℕ
 open_in [] = 0
 open_in (Module n xs ∷ r) = open_in r

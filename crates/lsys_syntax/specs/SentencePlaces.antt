@@ -37,7 +37,7 @@ NoSentenceGoesOnAtTheStop =
     (kinds : List Kind) (place : ℕ) → verdict kinds ≡ stops place → place < length kinds
     → BeginsDeep (take (suc place) kinds) → ⊥
 
--- where the verdict stops behind the last token, no command is spelled by the tokens
+-- where the verdict stops after the last token, no command is spelled by the tokens
 abbrev pub NoSentenceStopsAtItsEnd : Type 0
 NoSentenceStopsAtItsEnd =
     (kinds : List Kind) (place : ℕ) → verdict kinds ≡ stops place → length kinds ≤ place

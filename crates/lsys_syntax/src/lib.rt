@@ -17,7 +17,7 @@ pub fn law_of_empty_first_line()
     ensures { (bytes : List ℕ) → lines_of (10 ∷ bytes) ≡ [] ∷ lines_of bytes }
 {}
 
-/// A law of tokens: a line printed from pieces, each of which may stand behind the one before, is read as
+/// A law of tokens: a line printed from pieces, each of which may stand after the one before, is read as
 /// the tokens that it was printed from, each at the place where it was printed. So is a printed string of
 /// modules, wherever it stands in a line.
 pub fn law_of_printed_tokens()
@@ -71,8 +71,8 @@ pub fn law_of_expression_places()
     ensures read { ExtentsAreReadAsTheirExpressions }
 {}
 
-/// A law of rules: the verdict on a line behind the colon of its label is that on its rule. Where an expression stands
-/// next, a rule stops or nests too deep where that expression does, or goes on behind it.
+/// A law of rules: the verdict on a line after the colon of its label is that on its rule. Where an expression stands
+/// next, a rule stops or nests too deep where that expression does, or goes on after it.
 pub fn law_of_rule_parts()
     ensures lines { LinesGoOnAsTheirRules }
     ensures expressions { RulesGoOnByTheirExpressions }

@@ -2,7 +2,7 @@
 use Rattle.std.specs.Prelude.{◌≡◌, ℕ, List, [], ◌∷◌, ◌++◌, codes, refl}
 use Rattle.std.specs.Fmt.{digits}
 use Rattle.lsys_spec.specs.Output.{none, output_text}
-use Rattle.lsys_desks.specs.Desks.{desk_out}
+use Rattle.lsys_history.specs.Desks.{desk_out}
 
 abbrev run : ℕ → List ℕ → List ℕ
 run limit script = output_text (desk_out limit script none)

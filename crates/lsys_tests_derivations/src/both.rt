@@ -3,11 +3,11 @@ ghost use Rattle.std.specs.Prelude.{◌≤◌};
 
 use crate::same::is_same;
 use crate::writing::{written_over_a_forest, written_over_lists};
+use lsys_cli::sample;
 use lsys_tests_scripts::{
     Script, algae, edits, limited, long_lines, pictures, refusals, script_of_images, steps,
     versions,
 };
-use lsys_words::sample;
 use std::alloc::{AllocError, Global};
 use std::marker::Brand;
 use std::process::Abort;

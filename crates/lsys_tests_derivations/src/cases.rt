@@ -1,4 +1,4 @@
-//! Thirty edits that are refused in one session, and what it holds behind each of them.
+//! Thirty edits that are refused in one session, and what it holds after each of them.
 
 use crate::holding::{Row, TellsHeld, are_held, is_held};
 use lsys_match::{Derivation, Steps};

@@ -10,7 +10,7 @@ use std::process::Abort;
 use std::sync::ledger::Ledger;
 use std::test::Fail;
 
-/// A line, its reply, and the numbers of nodes and of answers that are held behind it.
+/// A line, its reply, and the numbers of nodes and of answers that are held after it.
 pub(crate) type Row = (&'static str, &'static str, u64, u64);
 
 /// A derivation that tells how much it keeps.
@@ -35,7 +35,7 @@ pub(crate) fn holds<L: Ledger, D: Derivation<L> + Drop + TellsHeld>(
     assert_eq!(rt; session.derivation().held_now(), Held { nodes, answers });
 }
 
-/// A line has this reply, and so much is held behind it.
+/// A line has this reply, and so much is held after it.
 pub(crate) fn is_held<L: Ledger, V: Ledger, D: Derivation<L> + Drop + TellsHeld>(
     rt: &impl Abort,
     alloc: Global,
@@ -51,7 +51,7 @@ pub(crate) fn is_held<L: Ledger, V: Ledger, D: Derivation<L> + Drop + TellsHeld>
     Ok(())
 }
 
-/// Each line is answered so, and so much is held behind it.
+/// Each line is answered so, and so much is held after it.
 pub(crate) fn are_held<L: Ledger, V: Ledger, D: Derivation<L> + Drop + TellsHeld>(
     rt: &impl Abort,
     alloc: Global,

@@ -1,5 +1,5 @@
 //! Tests of derivations: that the one over lists and the one over a forest answer scripts with the same bytes,
-//! what a pass does in any order, and what a session holds behind each line.
+//! what a pass does in any order, and what a session holds after each line.
 //!
 //! Tests stand in crates of their own, so that no crate below is proved a second time with its tests.
 #![tactic(auto)]

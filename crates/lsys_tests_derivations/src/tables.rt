@@ -1,4 +1,4 @@
-//! What is held behind each line of a script, in a session of its own.
+//! What is held after each line of a script, in a session of its own.
 ghost use Rattle.std.specs.Prelude.{◌≡◌, ◌<◌};
 
 use crate::cases::are_refused;
@@ -12,7 +12,7 @@ use std::process::Abort;
 use std::sync::ledger::{Blank, Ledger};
 use std::test::Fail;
 
-/// Algae and its continuation: lines, their replies, and the numbers of nodes and of answers behind them.
+/// Algae and its continuation: lines, their replies, and the numbers of nodes and of answers after them.
 fn algae() -> &'static [Row] {
     &[
         ("axiom A", "ok 0/0\n", 2, 0),
@@ -26,7 +26,7 @@ fn algae() -> &'static [Row] {
     ]
 }
 
-/// A fault, which leaves nothing behind.
+/// A fault, which leaves nothing after.
 fn a_fault() -> &'static [Row] {
     &[
         ("axiom A(10)", "ok 0/0\n", 2, 0),

@@ -55,7 +55,7 @@ pub(crate) fn contexts_that_skip() -> [Symbol; 23]
     ]
 }
 
-/// The tags of a level from the left to the right, each behind it that of its mate (a module has its own); and then the
+/// The tags of a level from the left to the right, each after it that of its mate (a module has its own); and then the
 /// tags from the right to the left.
 pub(crate) fn walk<W: LevelView>(rt: &impl Abort, alloc: Global, view: &W, level: u32) -> Vec<u32>
     requires { level < length (W.levels view.now) }

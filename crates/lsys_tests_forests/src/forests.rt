@@ -124,7 +124,7 @@ fn has_an_answer_and_no_child(rt: &impl Abort, forest: &Forest<Mark>) {
     is_row(rt, forest.children(root), &[]);
 }
 
-/// Each symbol of the first level of a forest, by the numbers of the nodes, behind it its mate; and then all from the right to
+/// Each symbol of the first level of a forest, by the numbers of the nodes, after it its mate; and then all from the right to
 /// the left. Nodes are numbered as they are added, the root first: a symbol of the first level is its place and 1.
 const FIRST: [u32; 69] = [
     1, 1, 2, 2, 3, 3, 4, 7, 5, 5, 6, 6, 7, 4, 8, 23, 9, 9, 10, 10, 11, 19, 12, 12, 13, 13, 14, 17,

@@ -94,7 +94,7 @@ fn list_of(rt: &impl Abort, alloc: Global, symbols: &[Symbol]) -> SymbolList
     list
 }
 
-/// The tags of a level from the left to the right, each behind it that of its mate (a module has its own); and then the
+/// The tags of a level from the left to the right, each after it that of its mate (a module has its own); and then the
 /// tags from the right to the left.
 fn walk<W: LevelView>(rt: &impl Abort, alloc: Global, view: &W, level: u32) -> Vec<u32>
     requires { level < length (W.levels view.now) }
@@ -153,7 +153,7 @@ fn params_at<W: LevelView>(view: &W, spot: W::Spot) -> &[i64]
     }
 }
 
-/// The tags of a level of `ABC[DE][SG[HI[JK]L]MNO]` from the left to the right, each behind it that of its mate; and then all
+/// The tags of a level of `ABC[DE][SG[HI[JK]L]MNO]` from the left to the right, each after it that of its mate; and then all
 /// from the right to the left. Each is its symbol's place.
 const WALKED: [u32; 69] = [
     0, 0, 1, 1, 2, 2, 3, 6, 4, 4, 5, 5, 6, 3, 7, 22, 8, 8, 9, 9, 10, 18, 11, 11, 12, 12, 13, 16,

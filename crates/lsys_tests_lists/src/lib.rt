@@ -1,4 +1,4 @@
-//! Tests of the steps of lists: mates, tags, what is moved, and the level behind a level; and of the places that a cut keeps.
+//! Tests of the steps of lists: mates, tags, what is moved, and the level after a level; and of the places that a cut keeps.
 //!
 //! Tests stand in crates of their own, so that no crate below is proved a second time with its tests.
 #![tactic(auto)]

@@ -1,4 +1,4 @@
-//! A derivation step beside an old one: mates, tags, what is moved, and the level behind a level.
+//! A derivation step beside an old one: mates, tags, what is moved, and the level after a level.
 ghost use Rattle.std.specs.Prelude.{◌≡◌, ◌+◌, ◌<◌, ◌≤◌, ◌^◌, length};
 ghost use Rattle.std.specs.List.{All};
 ghost use Rattle.lsys_text.specs.Texts.{IsNameBytes};
@@ -26,7 +26,7 @@ fn child(parent: u32, place: u32) -> Origin
     }
 }
 
-/// The child with this letter behind `count` children with the same.
+/// The child with this letter after `count` children with the same.
 fn named(parent: u32, letter: u8, count: u32) -> Origin
     ensures { result ≡ record { parent = parent; code = letter; count = count } }
 {
@@ -71,7 +71,7 @@ fn ancestry_counts_and_not_the_place(rt: HostRuntime) {
     is_row(&rt, mates.as_slice(), &want);
 }
 
-/// `AABC` of one parent behind `BACAD`, and `AB` of another behind `BA`.
+/// `AABC` of one parent after `BACAD`, and `AB` of another after `BA`.
 #[test]
 fn names_count_and_not_the_order(rt: HostRuntime) {
     let old = [

@@ -50,7 +50,7 @@ fn is_failing(
 }
 
 /// Scripts with the calls of the source and of the sink that fail, how a run ends and what it writes. Where the first read
-/// gives the last bytes and the second one nothing, the third isn't made; nor is one made behind a `quit`.
+/// gives the last bytes and the second one nothing, the third isn't made; nor is one made after a `quit`.
 fn failing_calls() -> &'static [(&'static str, (u64, u64), Status, &'static str)] {
     &[
         ("axiom A\nstring\n", (2, 0), Status::ReadFault, "ok 0/0\n"),

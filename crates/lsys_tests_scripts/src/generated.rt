@@ -5,7 +5,7 @@ use std::alloc::{AllocError, Global};
 ///
 /// # Errors
 ///
-/// Want of memory.
+/// Out of memory.
 pub fn script_of_images(alloc: Global, symbols: usize) -> Result<Vec<u8>, AllocError> {
     let mut script = Vec::from_slice(alloc, b"axiom ")?;
     script.extend_from_slice(&vec![in alloc; b'A'; 1000]?)?;
@@ -19,7 +19,7 @@ pub fn script_of_images(alloc: Global, symbols: usize) -> Result<Vec<u8>, AllocE
 ///
 /// # Errors
 ///
-/// Want of memory.
+/// Out of memory.
 pub fn long_lines(alloc: Global) -> Result<Vec<u8>, AllocError> {
     let letters = vec![in alloc; b'c'; 65_535]?;
     let mut script = Vec::from_slice(alloc, b";")?;

@@ -70,7 +70,7 @@ word-front (c ∷ bytes) h l =
     let few : length (c ∷ front is_word_byte bytes) ≤ 16 = rw w at l in
     rw w (h, Every-front is_word_byte bytes, few)
 
--- what stands behind the letter of a name with a `_`
+-- what stands after the letter of a name with a `_`
 pub record IsTail (behind tail : List ℕ) : Type 0 where
   pub cut : take (length tail + 1) behind ≡ 95 ∷ tail
   pub plain : Every is_alphanumeric tail

@@ -50,7 +50,7 @@ unpacked_to-rest (suc n) m p h =
     let e : suc n - 1 ≡ n = omega arith in
     rw e (omega (arith, pow-succ' 256 n))
 
--- one more byte behind
+-- one more byte after
 pub unpacked-next : (text new : List ℕ) (n k rest : ℕ) (all : List ℕ) → 0 < rest → rest < 256 ^ n → text ++ unpacked_to n rest ≡ all → new ≡ text ++ (rest % 256 ∷ []) → k ≡ n - 1
     → new ++ unpacked_to k (rest / 256) ≡ all
 unpacked-next text new n k rest all p h e f g =

@@ -52,7 +52,7 @@ name-front (c ∷ bytes) more h e =
     let found = name_front c bytes (name_tail bytes) more h (tail-is bytes) (e ∙ name_more_same c (name_tail bytes)) in
     record { name = found.0; is = found.1 }
 
--- how many bytes of a name stand behind its letter
+-- how many bytes of a name stand after its letter
 pub name_more-tail : (behind : List ℕ) (n : ℕ) → 0 < length behind → get_or behind 0 0 ≡ 95 → n ≡ min (length (front is_alphanumeric (drop 1 behind))) 6 → 0 < n
     → n + 1 ≡ (name_with 0 (name_tail behind)).1
 name_more-tail [] n s u e p = absurd (omega arith)

@@ -44,7 +44,7 @@ no-blank_by : (c : ℕ) (xs : List ℕ) (b : Bool) → is_blank c ≡ b → begi
 no-blank_by c xs true e ih = let one : 1 + prefix_len is_blank xs ≡ suc (prefix_len is_blank xs) = omega arith in rw (e, one) ih
 no-blank_by c xs false e ih = rw e e
 
--- what stands behind the blanks of a text is no blank
+-- what stands after the blanks of a text is no blank
 no-blank-behind : (xs : List ℕ) → begins_with is_blank (drop (prefix_len is_blank xs) xs) ≡ false
 no-blank-behind [] = refl
 no-blank-behind (c ∷ xs) = no-blank_by c xs (is_blank c) refl (no-blank-behind xs)
@@ -76,14 +76,14 @@ step-end m line place n e l =
     let none : drop (place + n) line ≡ [] = drop_all (place + n) line (omega arith) in
     behind_blanks m line place n e ∙ ap (λ xs. tokens_from m zero (place + n) xs) none
 
--- no token begins behind the blanks
+-- no token begins after the blanks
 pub step-none : (m : Mode) (line : List ℕ) (place n : ℕ) → n ≡ prefix_len is_blank (drop place line) → place + n < length line
     → first_token m (drop (place + n) line) ≡ None → tokens_from m zero place (drop place line) ≡ Err (place + n + 1)
 step-none m line place n e l f =
     let some : 0 < length (drop (place + n) line) = omega (arith, length-drop (place + n) line) in
     behind_blanks m line place n e ∙ read-none m (place + n) (drop (place + n) line) some (no_blank_there line place n e) f
 
--- a token stands behind the blanks
+-- a token stands after the blanks
 pub step-token : (m : Mode) (line : List ℕ) (place n : ℕ) (k : Kind) (more : ℕ) → n ≡ prefix_len is_blank (drop place line)
     → first_token m (drop (place + n) line) ≡ Some (k, more)
     → tokens_from m zero place (drop place line)

@@ -249,7 +249,7 @@ module _ (m : Mode) (c : ℕ) (d : is_digit c ≡ false) (l : is_letter c ≡ fa
   alone_right bytes None e g f s = λ j i b h. no_mark i c bytes f (s refl) (mark_part m i c bytes d l b (shape m j (take i (c ∷ bytes)) h))
   alone_right bytes (Some k) e g f s = one_right bytes k (g.0 m) f
 
--- `=`, and what may stand behind it
+-- `=`, and what may stand after it
 assign_by : (m : Mode) (x : ℕ) (rest : List ℕ) (a b : Bool) → (x == 62) ≡ a → (x == 61) ≡ b
     → Right m (61 ∷ x ∷ rest) (if a then Some (syntax.Arrow, 1) else if b then Some (syntax.Equal, 1) else Some (syntax.Assign, 0))
 assign_by m x rest true b e f = two_right m 61 refl refl x rest syntax.Arrow (ap (λ y. 61 ∷ y ∷ []) (eqb-true x 62 e))
@@ -260,7 +260,7 @@ assign_right : (m : Mode) (bytes : List ℕ) → Right m (61 ∷ bytes) (mark_at
 assign_right m [] = one_right m 61 refl refl [] syntax.Assign refl refl
 assign_right m (x ∷ rest) = assign_by m x rest (x == 62) (x == 61) refl refl
 
--- `!`, `<` or `>`, and a `=` that may stand behind it
+-- `!`, `<` or `>`, and a `=` that may stand after it
 order_by : (m : Mode) (c : ℕ) (two one : Kind) (x : ℕ) (rest : List ℕ) (b : Bool) → (x == 61) ≡ b → is_digit c ≡ false → is_letter c ≡ false
     → IsTokenText m two (c ∷ 61 ∷ []) → IsTokenText m one (c ∷ []) → ((x == 61) ≡ false → is_double c x ≡ false)
     → Right m (c ∷ x ∷ rest) (if b then Some (two, 1) else Some (one, 0))

@@ -18,7 +18,7 @@ mode_of Words = syntax.Words
 mode_of UntilColon = syntax.UntilColon
 mode_of Modules = syntax.Modules
 
--- a kind, and how many bytes stand behind the token's first
+-- a kind, and how many bytes stand after the token's first
 abbrev pub lexeme_of : Lexeme → syntax.Kind × ℕ
 lexeme_of x = (kind_of x.kind, x.more)
 
@@ -51,7 +51,7 @@ abbrev pub after : List syntax.Token → Result (List syntax.Token) ℕ → Resu
 after ts (Ok us) = Ok (ts ++ us)
 after ts (Err column) = Err column
 
--- the line goes on in the mode behind a token of this kind
+-- the line goes on in the mode after a token of this kind
 abbrev pub IsModeBehind : Mode → TokenKind → Cursor → Type 0
 IsModeBehind mode kind next = mode_of next.mode ≡ syntax.next_mode (mode_of mode) (kind_of kind)
 
@@ -76,17 +76,17 @@ abbrev pub IsRefusalFrom : List ℕ → Cursor → TextRefusal → Type 0
 IsRefusalFrom line c (Byte column) = rest_from line c ≡ Err column
 IsRefusalFrom line c Memory = IsOk (rest_from line c)
 
--- behind a token that begins at a place, in the mode of what follows it
+-- after a token that begins at a place, in the mode of what follows it
 abbrev pub IsCursorBehind : ℕ → Mode → Lexeme → Cursor → Type 0
 IsCursorBehind start mode x next = (next.place ≡ start + 1 + x.more) × IsModeBehind mode x.kind next
 
--- a token that begins at a place is added, and the line goes on behind it; or there is no room, and the rest is told of
+-- a token that begins at a place is added, and the line goes on after it; or there is no room, and the rest is told of
 abbrev pub IsPushed : List ℕ → List Token → ℕ → Mode → Lexeme → List Token → Result (Option Cursor) TextRefusal → Type 0
 IsPushed line old start mode x new (Ok None) = ⊥
 IsPushed line old start mode x new (Ok (Some next)) = (new ≡ old ++ as_token x start ∷ []) × IsCursorBehind start mode x next
 IsPushed line old start mode x new (Err refusal) = (new ≡ old) × ((next : Cursor) × IsCursorBehind start mode x next × IsRefusalFrom line next refusal)
 
--- the next token is passed: what is refused behind it is refused before it too
+-- the next token is passed: what is refused after it is refused before it too
 abbrev pub IsPassed : List ℕ → Cursor → Result (Option Cursor) TextRefusal → Type 0
 IsPassed line c (Ok None) = rest_from line c ≡ Ok []
 IsPassed line c (Ok (Some next)) = (t : syntax.Token) × (rest_from line c ≡ syntax.before_rest t (rest_from line next))
@@ -105,6 +105,6 @@ front_word bytes =
     let word = syntax.front syntax.is_word_byte bytes in
     (syntax.word_kind word, length word - 1)
 
--- where the line goes on, if it does, is behind the cursor and within the line
+-- where the line goes on, if it does, is after the cursor and within the line
 abbrev pub IsFurther : List ℕ → Cursor → Option Cursor → Type 0
 IsFurther line old next = IfSome next (λ c. (old.place < c.place) × (c.place ≤ length line))

@@ -21,12 +21,12 @@ pub use token_kind::{Token, TokenKind};
 
 /// The tokens of a line, in order.
 ///
-/// The line begins in the mode of words. It is read as names behind a first word `axiom` or `ignore`,
-/// and behind the first `:` where the first word is `production` or `hom`.
+/// The line begins in the mode of words. It is read as names after a first word `axiom` or `ignore`,
+/// and after the first `:` where the first word is `production` or `hom`.
 ///
 /// # Errors
 ///
-/// `Byte` has the column of the first byte that is in no token. `Memory` is want of memory, and is told
+/// `Byte` has the column of the first byte that is in no token. `Memory` is lack of memory, and is told
 /// only of a line without such a byte.
 pub fn tokens(alloc: Global, line: &[u8]) -> Result<Vec<Token>, TextRefusal>
     requires { length line.now ≤ most_line_bytes }

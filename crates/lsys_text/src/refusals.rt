@@ -21,7 +21,7 @@ pub enum TextRefusal {
     /// The first byte that is in no token. Columns count bytes from 1.
     #[error("column {column} is in no token")]
     Byte { column: u32 },
-    /// Want of memory.
+    /// Out of memory.
     #[error("out of memory")]
     Memory,
 }

@@ -1,4 +1,4 @@
-//! The token at the front of a text, and the mode behind it.
+//! The token at the front of a text, and the mode after it.
 ghost use Rattle.std.specs.Prelude.{◌≡◌, ◌+◌, ◌-◌, ◌*◌, ◌^◌, ◌<◌, ◌≤◌, ◌++◌, ◌∷◌, [], length, All, option_map, OnOk, OnErr, IfOk, IfSome, IsTrue, SomeIff};
 ghost use Rattle.std.specs.List.{prefix_len};
 ghost use Rattle.std.specs.Str.Parse.{digits_value};
@@ -26,7 +26,7 @@ pub enum Mode {
     Modules,
 }
 
-/// A token's kind, and how many bytes it has behind its first.
+/// A token's kind, and how many bytes it has after its first.
 #[derive(Clone, Copy)]
 pub struct Lexeme {
     pub kind: TokenKind,
@@ -119,7 +119,7 @@ fn refused_byte(place: usize) -> TextRefusal
     }
 }
 
-// Why a line is refused whose tokens from here on find no room: its first byte that is in none, or want of memory.
+// Why a line is refused whose tokens from here on find no room: its first byte that is in none, or lack of memory.
 fn refusal_from(line: &[u8], cursor: Cursor) -> TextRefusal
     requires line { length line.now ≤ most_line_bytes }
     requires place { cursor.place ≤ length line.now }
@@ -195,7 +195,7 @@ pub fn token_at(mode: Mode, text: &[u8]) -> Option<Lexeme>
     }
 }
 
-/// The mode behind a token.
+/// The mode after a token.
 pub fn mode_behind(mode: Mode, kind: TokenKind) -> Mode
     ensures { mode_of result ≡ next_mode (mode_of mode) (kind_of kind) }
 {
@@ -207,7 +207,7 @@ pub fn mode_behind(mode: Mode, kind: TokenKind) -> Mode
     }
 }
 
-// The mode behind the first word of a line.
+// The mode after the first word of a line.
 fn mode_behind_word(word: Word) -> Mode
     ensures { mode_of result ≡ after_word word }
 {
@@ -312,7 +312,7 @@ fn name_at(text: &[u8]) -> Lexeme
     }
 }
 
-// How many bytes of a name stand behind its letter.
+// How many bytes of a name stand after its letter.
 fn name_more(behind: &[u8]) -> usize
     ensures more { result ≡ (name_with 0 (name_tail behind.now)).1 }
     ensures within { result ≤ length behind.now }

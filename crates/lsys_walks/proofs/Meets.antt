@@ -1,4 +1,4 @@
--- What a walk tells behind a module that it meets.
+-- What a walk tells after a module that it meets.
 use Rattle.std.proofs.Common.{◌≡◌, ℕ, List, Bool, true, false, None, ◌≤◌, refl, ap, ◌∙◌, subst}
 use Rattle.lsys_spec.specs.Levels as L
 use Rattle.lsys_spec.specs.Levels.{ModuleValue}
@@ -11,7 +11,7 @@ use Rattle.lsys_walks.specs.Noted.{entry_by}
 use Rattle.lsys_walks.specs.Meetings.{noted_met, GoesBy}
 use Rattle.lsys_walks.proofs.Told.{Answer}
 
--- what is told behind it: as before where it is ignored, else what follows where it fits
+-- what is told after it: as before where it is ignored, else what follows where it fits
 abbrev pub going : Bool → Bool → Told Answer → Told Answer → Told Answer
 going true fitting on next = on
 going false true on next = next

@@ -45,7 +45,7 @@ front_more a b c ps h e = front_on a b c h (ap (take (length b)) e ∙ take_at b
 abbrev pub beginning : List ModuleValue → List ModuleValue → List ModuleValue
 beginning got ms = got ++ ms
 
--- what is wanted behind the first of them
+-- what is wanted after the first of them
 abbrev outer_of : Patterns → Patterns
 outer_of Done = Done
 outer_of (OneOf q p) = p

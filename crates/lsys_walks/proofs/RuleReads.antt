@@ -1,4 +1,4 @@
--- A rule's walks, one behind the other.
+-- A rule's walks, one after the other.
 use Rattle.std.proofs.Common.{◌≡◌, ℕ, ℤ, Bool, List, [], ◌∷◌, ◌++◌, ◌+◌, ◌<◌, length, take, Some, None, ap, sym, ◌∙◌, subst, arith, append_assoc, append-nil, length-append}
 use Rattle.std.specs.Prelude.{option_map, reverse}
 use Rattle.std.proofs.lemmas.List.{take-append-le, reverse-reverse}

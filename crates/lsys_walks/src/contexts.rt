@@ -25,7 +25,7 @@ use std::sync::ledger::Ledger;
 ///
 /// # Errors
 ///
-/// Want of memory, for an entry that differs from the old trace or for the parameters. What was read by then is kept: of
+/// Out of memory, for an entry that differs from the old trace or for the parameters. What was read by then is kept: of
 /// the whole trace at most 1,024 entries.
 pub fn context_reads<'a, W: LevelView, V: Ledger>(
     view: &W,

@@ -30,7 +30,7 @@ pub(crate) fn pattern_in(item: &Item) -> Option<&Pattern>
     }
 }
 
-/// The place behind the bracket that ends the branch that begins at a place.
+/// The place after the bracket that ends the branch that begins at a place.
 pub(crate) fn behind(items: &[Item], at: usize) -> usize
     requires { slice_get items.now at ≡ Some Item.Push }
     ensures later { at < result }

@@ -21,14 +21,14 @@ use std::sync::ledger::Ledger;
 /// A branch that ends to the left is passed in one step, by its mate; out of its own branch the walk goes by that branch's
 /// `[`. An ignored module is passed; any other one is compared with the pattern that is due, and the walk stops at the
 /// entry that decides it. Each entry is added to `trace`, compared there with the old one, and counted by `visited`. Where
-/// the patterns match, the parameters of the modules that they match stand behind those of `bound`, the last one first.
+/// the patterns match, the parameters of the modules that they match stand after those of `bound`, the last one first.
 ///
 /// The level has no cuts, so it takes at most as many steps as symbols stand to the left. With the 1,025th entry of the
 /// trace it answers [`Walked::TooFar`].
 ///
 /// # Errors
 ///
-/// Want of memory, for an entry that differs from the old trace or for the parameters. What was read by then is kept: of
+/// Out of memory, for an entry that differs from the old trace or for the parameters. What was read by then is kept: of
 /// the whole trace at most 1,024 entries.
 pub fn left_reads<'a, W: LevelView, V: Ledger>(
     view: &W,

@@ -30,7 +30,7 @@ pub(crate) enum Meeting {
 ///
 /// # Errors
 ///
-/// Want of memory for the entry. Nothing was then read or counted.
+/// Out of memory for the entry. Nothing was then read or counted.
 pub(crate) fn meet_module<'a, V: Ledger>(
     filter: Filter<'_>,
     due: Option<&Pattern>,

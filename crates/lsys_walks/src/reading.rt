@@ -132,7 +132,7 @@ impl<'a> Reading<'a> {
     ///
     /// # Errors
     ///
-    /// Want of memory, and only where all agreed.
+    /// Out of memory, and only where all agreed.
     pub fn finish(self) -> Result<Trace, AllocError>
         ensures { IfOk result (λ t. t ≡ self.entry.read) }
     {
@@ -161,7 +161,7 @@ impl<'a> Reading<'a> {
     ///
     /// # Errors
     ///
-    /// Want of memory, and only where the entry isn't the next one of the old trace, all before having agreed. Nothing was
+    /// Out of memory, and only where the entry isn't the next one of the old trace, all before having agreed. Nothing was
     /// then read or counted.
     pub(crate) fn note<V: Ledger>(
         &mut self,

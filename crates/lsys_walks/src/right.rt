@@ -17,22 +17,22 @@ use lsys_level::{LevelView, Sight};
 use std::alloc::AllocError;
 use std::sync::ledger::Ledger;
 
-/// Reads from behind a spot to the right, for the items of a rule's right context from one on, up to the `]` that ends
+/// Reads from after a spot to the right, for the items of a rule's right context from one on, up to the `]` that ends
 /// their branch or to the last one (ABOP 1.8 and 1.10.2).
 ///
 /// The walk reads no further than the spot's own branch. A branch costs one entry, with its two brackets. A module pattern
-/// passes it over; a branch pattern is tried in it, one deeper, and is wanted again behind it where it didn't match there:
+/// passes it over; a branch pattern is tried in it, one deeper, and is wanted again after it where it didn't match there:
 /// it need not reach the branch's end, and any of the branches that stand here may match. An ignored module is passed; any
 /// other one is compared, and the walk stops at the entry that decides it. Each entry is added to `trace`, compared there
 /// with the old one, and counted by `visited`. Where the items match, the parameters of the modules that they match stand
-/// behind those of `bound`, in order.
+/// after those of `bound`, in order.
 ///
 /// It is called again once for each branch pattern that is open, so at most eight deep, however deep the level is. With the
 /// 1,025th entry of the trace it answers [`Walked::TooFar`].
 ///
 /// # Errors
 ///
-/// Want of memory, for an entry that differs from the old trace or for the parameters. What was read by then is kept: of
+/// Out of memory, for an entry that differs from the old trace or for the parameters. What was read by then is kept: of
 /// the whole trace at most 1,024 entries.
 #[cycle(right_reads)]
 pub fn right_reads<'a, W: LevelView, V: Ledger>(

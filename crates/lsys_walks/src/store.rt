@@ -48,7 +48,7 @@ impl AnswerStore {
     ///
     /// # Errors
     ///
-    /// Want of memory. What is kept stays then too, and of the room for parameters nothing was taken.
+    /// Out of memory. What is kept stays then too, and of the room for parameters nothing was taken.
     pub fn reserve(&mut self, entries: usize, values: usize) -> Result<(), AllocError>
         ensures entries { OnOk result (entries ≤ self.new.traces.spare) }
         ensures params { OnOk result (values ≤ self.new.values.spare) }

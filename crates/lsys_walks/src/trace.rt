@@ -59,7 +59,7 @@ impl Trace {
     ///
     /// # Errors
     ///
-    /// Want of memory.
+    /// Out of memory.
     pub(crate) fn copied(
         alloc: Global,
         entries: &[Entry],
@@ -85,7 +85,7 @@ impl Trace {
     ///
     /// # Errors
     ///
-    /// Want of memory. The trace is then as it was.
+    /// Out of memory. The trace is then as it was.
     pub(crate) fn add(&mut self, entry: Entry, params: &[i64]) -> Result<(), AllocError>
         requires { length params.now ≡ arity_of entry }
         ensures added { OnOk result (self.new ≡ self.old ++ noted_of entry params.now ∷ []) }

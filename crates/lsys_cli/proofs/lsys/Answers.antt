@@ -3,7 +3,7 @@ use Rattle.std.proofs.Common.{◌≡◌, false, Some, inl, inr, refl}
 use Rattle.lsys_cli.specs.Ends.{IsScriptWithin, replies, seen}
 use Rattle.lsys_cli.specs.Programs.{IsComplete, Untouched, most_visits}
 use Rattle.lsys_cli.specs.declared.status.Status.TheVariants.{Memory}
-use Rattle.lsys_words.specs.Words.{options_by, texts}
+use Rattle.lsys_cli.specs.Words.{options_by, texts}
 use Rattle.lsys_cli.proofs.Programs.{limit_of, completes, on_script}
 use Rattle.lsys_cli.proofs.lsys.Goals as goal
 

@@ -12,7 +12,7 @@ use Rattle.lsys_bodies.specs.Building.{OptionIsKnown, StringIsKnown, tree_at, im
 use Rattle.lsys_bodies.specs.declared.body.Body.{Body}
 use Rattle.lsys_bodies.specs.Views.{as_rule, tree_in, template_of}
 use Rattle.lsys_bodies.proofs.Loops.{map-map, option-at}
-use Rattle.lsys_bodies.proofs.Formals.{few-names}
+use Rattle.lsys_bodies.proofs.GatheredFormals.{few-names}
 use Rattle.lsys_bodies.proofs.Means.{made-built}
 use Rattle.lsys_bodies.proofs.building.build_body.Goals as goal
 

@@ -3,7 +3,7 @@ use Rattle.std.proofs.lemmas.Grind.{common_steps}
 use Rattle.lsys_io.specs.declared.lines.LineRead.TheVariants.{End}
 use Rattle.lsys_io.specs.Reading.{remaining}
 use Rattle.lsys_cli.specs.Ends.{Ends, seen}
-use Rattle.lsys_desk.specs.Views.{desk_on}
+use Rattle.lsys_cli.specs.Views.{desk_on}
 use Rattle.lsys_cli.proofs.Turns.{begins, begins_going, begins_within, turned, stuck, goes_on, quits, write_fault, read_goes_on, unless_end, unread_ends, unread_rose, unread_stayed, unread_writes, at_end, ends}
 use Rattle.lsys_cli.proofs.run.run.Goals as goal
 

@@ -1,7 +1,7 @@
 use Rattle.std.proofs.Common.{◌≡◌, ◌-◌, ◌≤◌, []}
 use Rattle.lsys_syntax.specs.Limits.{most_script_bytes}
 use Rattle.lsys_io.specs.Reading.{remaining, IsNotRefused}
-use Rattle.lsys_desk.specs.Views.{desk_on}
+use Rattle.lsys_cli.specs.Views.{desk_on}
 use Rattle.lsys_cli.specs.Ends.{seen}
 use Rattle.lsys_cli.proofs.Turns.{SoFar}
 use Rattle.lsys_cli.proofs.run.run.Given as goal

@@ -2,7 +2,7 @@ use Rattle.std.proofs.Common.{◌≡◌, ℕ, ◌∷◌, ◌++◌, [], subst, ar
 use Rattle.std.proofs.lemmas.Grind.{elements}
 use Rattle.lsys_forest.specs.Groves.{now_of}
 use Rattle.lsys_forest.proofs.SoundLemmas.{some_of}
-use Rattle.lsys_candidates.proofs.Gathering.{not_both}
+use Rattle.lsys_front.proofs.Gathering.{not_both}
 use Rattle.lsys_front.proofs.Losing.{loses_none, loses_answer}
 use Rattle.lsys_front.proofs.LostAnswers.{loses_nothing, loses_one}
 use Rattle.lsys_front.proofs.lost.lose_answer.Goals as goal

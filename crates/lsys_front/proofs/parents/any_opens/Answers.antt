@@ -1,11 +1,11 @@
 use Rattle.std.proofs.Common.{arith, ◌≡◌, Some, length, slice_get, refl, sym, ap, ◌∙◌, inl, inr}
 use Rattle.std.proofs.lemmas.Option.{slice_get_read}
 use Rattle.std.proofs.lemmas.Grind.{common_steps}
-use Rattle.lsys_change.specs.Children.{is_open}
+use Rattle.lsys_laws.specs.Children.{is_open}
 use Rattle.lsys_forest.specs.Groves.{now_of}
 use Rattle.lsys_forest.proofs.WalkLemmas.{get_In}
-use Rattle.lsys_kept.proofs.SeamLemmas.{in_taken_next, in_all_taken, none_taken}
-use Rattle.lsys_repair.specs.Answers.{kept_successors}
+use Rattle.lsys_reads.proofs.SeamLemmas.{in_taken_next, in_all_taken, none_taken}
+use Rattle.lsys_children.specs.Answers.{kept_successors}
 use Rattle.lsys_front.proofs.parents.any_opens.Goals as goal
 
 pub loop-node-init : goal.loop-node-init

@@ -5,7 +5,7 @@ use Rattle.lsys_forest.specs.Groves.{now_of}
 use Rattle.lsys_forest.specs.Rows.{kids_in}
 use Rattle.lsys_forest.proofs.SoundLemmas.{some_of}
 use Rattle.lsys_forest.proofs.WalkLemmas.{get_In}
-use Rattle.lsys_brood.proofs.MatchLemmas.{take_next, take_whole}
+use Rattle.lsys_children.proofs.MatchLemmas.{take_next, take_whole}
 use Rattle.lsys_front.proofs.parents.count_kids.Goals as goal
 
 pub children-requires : goal.children-requires

@@ -1,6 +1,6 @@
 use Rattle.std.proofs.Common.{◌≡◌, drop, map}
 use Rattle.lsys_bodies.specs.Views.{as_production}
-use Rattle.lsys_matrix.specs.Growth.{all_plain}
+use Rattle.lsys_growth.specs.Growth.{all_plain}
 use Rattle.lsys_growth.proofs.class.are_plain.Given as goal
 
 abbrev pub invariant-loop-rule : goal.invariant-loop-rule

@@ -1,6 +1,6 @@
 use Rattle.std.proofs.Common.{◌≡◌, drop}
 use Rattle.lsys_module.specs.Views.{string_of}
-use Rattle.lsys_matrix.specs.Growth.{is_bare}
+use Rattle.lsys_growth.specs.Growth.{is_bare}
 use Rattle.lsys_growth.proofs.class.is_bare_axiom.Given as goal
 
 abbrev pub invariant-loop-symbol : goal.invariant-loop-symbol

@@ -1,7 +1,7 @@
 use Rattle.std.proofs.Common.{arith, length}
 use Rattle.std.proofs.lemmas.Grind.{common_steps}
-use Rattle.lsys_matrix.specs.Matrices.{place}
-use Rattle.lsys_growth.proofs.Told.{place_below}
+use Rattle.lsys_growth.specs.Matrices.{place}
+use Rattle.lsys_growth.proofs.ToldRows.{place_below}
 use Rattle.lsys_growth.proofs.growing.counts_of.Goals as goal
 
 pub push_count-requires : goal.push_count-requires

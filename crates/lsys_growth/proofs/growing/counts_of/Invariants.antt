@@ -1,9 +1,9 @@
 use Rattle.std.proofs.Common.{◌≡◌, ◌+◌, ◌++◌, drop, map}
 use Rattle.std.specs.Prelude.{filter}
 use Rattle.lsys_module.specs.Views.{module_name}
-use Rattle.lsys_matrix.specs.Matrices.{place}
-use Rattle.lsys_matrix.specs.Growth.{stands}
-use Rattle.lsys_matrix.specs.Counts.{paired}
+use Rattle.lsys_growth.specs.Matrices.{place}
+use Rattle.lsys_growth.specs.Growth.{stands}
+use Rattle.lsys_growth.specs.Counts.{paired}
 use Rattle.lsys_growth.specs.Views.{count_of}
 use Rattle.lsys_growth.proofs.growing.counts_of.Given as goal
 

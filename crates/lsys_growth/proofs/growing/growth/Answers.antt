@@ -2,12 +2,12 @@ use Rattle.std.proofs.Common.{arith, ◌≡◌, List, ℕ, true, map, sym, subst
 use Rattle.std.specs.Prelude.{Option, Some}
 use Rattle.std.proofs.lemmas.Grind.{elements}
 use Rattle.lsys_module.specs.Views.{module_name}
-use Rattle.lsys_matrix.specs.Matrices.{place}
-use Rattle.lsys_matrix.specs.Growth.{in_class}
+use Rattle.lsys_growth.specs.Matrices.{place}
+use Rattle.lsys_growth.specs.Growth.{in_class}
 use Rattle.lsys_growth.specs.Letters.{AreLettersOf}
 use Rattle.lsys_growth.specs.Steps.{IsLevelRow}
 use Rattle.lsys_growth.specs.Census.{IsCensus}
-use Rattle.lsys_growth.proofs.Told.{told_some}
+use Rattle.lsys_growth.proofs.ToldRows.{told_some}
 use Rattle.lsys_growth.proofs.growing.growth.Goals as goal
 
 pub returns-in-Some-2-clause-answer : goal.returns-in-Some-2-clause-answer

@@ -1,7 +1,7 @@
 use Rattle.std.proofs.Common.{◌≡◌}
-use Rattle.lsys_matrix.specs.Capped.{capped, value_of}
-use Rattle.lsys_matrix.specs.Sums.{sum_to}
-use Rattle.lsys_matrix.specs.Matrices.{place}
+use Rattle.lsys_growth.specs.Capped.{capped, value_of}
+use Rattle.lsys_growth.specs.Sums.{sum_to}
+use Rattle.lsys_growth.specs.Matrices.{place}
 use Rattle.lsys_growth.proofs.growing.told_length.Given as goal
 
 abbrev pub invariant-loop-count : goal.invariant-loop-count

@@ -1,5 +1,5 @@
 use Rattle.std.proofs.Common.{[], true}
-use Rattle.lsys_matrix.specs.Growth.{module_names, all_rule_names}
+use Rattle.lsys_growth.specs.Growth.{module_names, all_rule_names}
 use Rattle.lsys_growth.specs.Letters.{letters_in, HasPut}
 use Rattle.lsys_growth.proofs.LettersPut.{axiom_put, rules_put, letters_full, rule_letters_full, letters_told, kept, few}
 use Rattle.lsys_growth.proofs.letters.letters.Goals as goal

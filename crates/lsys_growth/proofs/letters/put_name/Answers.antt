@@ -1,7 +1,7 @@
 use Rattle.std.proofs.Common.{◌≡◌, ◌<◌, ◌≤◌, false, length, map, sym, ap, ◌∙◌, arith}
 use Rattle.std.proofs.lemmas.List.{length-map}
 use Rattle.lsys_module.specs.Views.{module_name}
-use Rattle.lsys_matrix.specs.Growth.{among, most_letters}
+use Rattle.lsys_growth.specs.Growth.{among, most_letters}
 use Rattle.lsys_growth.specs.Letters.{letter_place, letters_in}
 use Rattle.lsys_growth.proofs.LettersPut.{put_full, inserted}
 use Rattle.lsys_growth.proofs.letters.put_name.Goals as goal

@@ -1,6 +1,6 @@
 use Rattle.std.proofs.Common.{map}
 use Rattle.lsys_bodies.specs.Views.{rule_of, template_symbol}
-use Rattle.lsys_matrix.specs.Growth.{module_names, rule_names}
+use Rattle.lsys_growth.specs.Growth.{module_names, rule_names}
 use Rattle.lsys_growth.specs.Letters.{letters_in, HasPut}
 use Rattle.lsys_growth.proofs.LettersPut.{first_full_of, rule_put}
 use Rattle.lsys_growth.proofs.Results.{if_ok}

@@ -1,7 +1,7 @@
 use Rattle.std.proofs.Common.{arith, true}
 use Rattle.std.proofs.lemmas.Grind.{common_steps}
 use Rattle.lsys_bodies.specs.Views.{rule_of}
-use Rattle.lsys_matrix.specs.Growth.{rule_names}
+use Rattle.lsys_growth.specs.Growth.{rule_names}
 use Rattle.lsys_growth.specs.Letters.{letters_in, HasPut}
 use Rattle.lsys_growth.proofs.LettersPut.{rules_full, rules_on, kept, few}
 use Rattle.lsys_growth.proofs.letters.put_rules.Goals as goal

@@ -1,6 +1,6 @@
 use Rattle.std.proofs.Common.{◌≡◌, ◌≤◌, drop, length, map}
 use Rattle.lsys_bodies.specs.Views.{template_symbol}
-use Rattle.lsys_matrix.specs.Growth.{most_letters, module_names, put_letters}
+use Rattle.lsys_growth.specs.Growth.{most_letters, module_names, put_letters}
 use Rattle.lsys_growth.specs.Letters.{letters_in}
 use Rattle.lsys_growth.proofs.letters.put_successor.Given as goal
 

@@ -1,4 +1,4 @@
-use Rattle.lsys_repair.proofs.Listed.{left_over}
+use Rattle.lsys_children.proofs.Listed.{left_over}
 use Rattle.lsys_pass.proofs.AskedLevels.{AreAskedTo}
 use Rattle.lsys_pass.proofs.asked.asked_on.Given as goal
 

@@ -1,6 +1,6 @@
 use Rattle.std.proofs.Common.{subst}
 use Rattle.std.proofs.lemmas.Result.{IfOk-weaker}
-use Rattle.lsys_candidates.specs.Others.{RulesOf}
+use Rattle.lsys_front.specs.Others.{RulesOf}
 use Rattle.lsys_pass.specs.Others.{AreUnlike}
 use Rattle.lsys_pass.proofs.Askings.{unlike_listed}
 use Rattle.lsys_pass.proofs.asked.unlike_on.Goals as goal

@@ -6,10 +6,10 @@ use Rattle.lsys_forest.specs.Nodes.{Nodes}
 use Rattle.lsys_forest.specs.Answers.{answers}
 use Rattle.lsys_forest.specs.Groves.{now_of}
 use Rattle.lsys_forest.specs.Rows.{kids_in}
-use Rattle.lsys_brood.specs.Children.{ToldNodes}
-use Rattle.lsys_repair.specs.Nexts.{wanted_count}
-use Rattle.lsys_repair.specs.Needs.{need_for}
-use Rattle.lsys_repair.specs.Renewals.{AreSmall, AreAllUnder}
+use Rattle.lsys_children.specs.Children.{ToldNodes}
+use Rattle.lsys_children.specs.Nexts.{wanted_count}
+use Rattle.lsys_children.specs.Needs.{need_for}
+use Rattle.lsys_children.specs.Renewals.{AreSmall, AreAllUnder}
 use Rattle.lsys_pass.proofs.Beginnings.{makes_first, room_same, few_live}
 use Rattle.lsys_pass.proofs.beginning.make_counted.Goals as goal
 

@@ -6,9 +6,9 @@ use Rattle.lsys_forest.specs.Answers.{answers}
 use Rattle.lsys_forest.specs.Groves.{now_of}
 use Rattle.lsys_forest.specs.Rows.{kids_in}
 use Rattle.lsys_match.specs.Kept.{Kept}
-use Rattle.lsys_repair.specs.Nexts.{wanted_count}
-use Rattle.lsys_repair.specs.Needs.{need_for}
-use Rattle.lsys_repair.specs.declared.count.Count.{Count}
+use Rattle.lsys_children.specs.Nexts.{wanted_count}
+use Rattle.lsys_children.specs.Needs.{need_for}
+use Rattle.lsys_children.specs.declared.count.Count.{Count}
 use Rattle.lsys_pass.specs.Beginnings.{MakesFirst}
 use Rattle.lsys_pass.proofs.beginning.make_first_nodes.Goals as goal
 

@@ -1,4 +1,4 @@
-use Rattle.lsys_kept.specs.Levels.{tags_read}
+use Rattle.lsys_reads.specs.Levels.{tags_read}
 use Rattle.lsys_pass.specs.Read.{entries_tags}
 use Rattle.lsys_pass.proofs.Reading.{trace_tags, with_tags}
 use Rattle.lsys_pass.proofs.keep.keep.Goals as goal

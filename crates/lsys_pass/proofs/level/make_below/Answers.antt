@@ -1,5 +1,5 @@
 use Rattle.std.proofs.Common.{ap, ◌∙◌}
-use Rattle.lsys_brood.specs.Children.{ToldNodes}
+use Rattle.lsys_children.specs.Children.{ToldNodes}
 use Rattle.lsys_pass.proofs.Births.{roomy_is_sound, roomy_parents, room_for, keeps_roomy, keeps_made, makes_below}
 use Rattle.lsys_pass.proofs.level.make_below.Goals as goal
 

@@ -1,5 +1,5 @@
 use Rattle.std.proofs.Common.{◌≡◌, map, take}
-use Rattle.lsys_repair.specs.Parents.{uncut}
+use Rattle.lsys_children.specs.Parents.{uncut}
 use Rattle.lsys_pass.proofs.parents.whole_parents.Given as goal
 
 abbrev pub invariant-loop-node : goal.invariant-loop-node

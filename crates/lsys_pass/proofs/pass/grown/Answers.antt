@@ -1,5 +1,5 @@
 use Rattle.std.proofs.Common.{subst}
-use Rattle.lsys_kept.specs.Seats.{HasSeat}
+use Rattle.lsys_reads.specs.Seats.{HasSeat}
 use Rattle.lsys_pass.proofs.pass.grown.Goals as goal
 
 pub returns : goal.returns

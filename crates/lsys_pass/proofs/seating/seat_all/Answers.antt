@@ -2,9 +2,9 @@ use Rattle.std.proofs.Common.{◌≡◌, ◌≢◌, Some, length, slice_get, ref
 use Rattle.std.proofs.lemmas.Bool.{cases_eq}
 use Rattle.std.proofs.lemmas.Option.{slice_get_read, slice_get_within, same_Some}
 use Rattle.lsys_spec.specs.Rows.{In}
-use Rattle.lsys_kept.specs.Neighbours.{neighbours_in}
-use Rattle.lsys_kept.specs.Seats.{neighbours_at}
-use Rattle.lsys_kept.proofs.LevelLemmas.{place_in, got_in}
+use Rattle.lsys_reads.specs.Neighbours.{neighbours_in}
+use Rattle.lsys_reads.specs.Seats.{neighbours_at}
+use Rattle.lsys_reads.proofs.LevelLemmas.{place_in, got_in}
 use Rattle.lsys_pass.proofs.seating.seat_all.Goals as goal
 
 pub seat-requires-clause-level : goal.seat-requires-clause-level

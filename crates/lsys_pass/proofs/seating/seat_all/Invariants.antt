@@ -1,7 +1,7 @@
 use Rattle.std.proofs.Common.{◌≡◌, ◌<◌, ℕ, Some, slice_get}
 use Rattle.lsys_spec.specs.Rows.{In}
-use Rattle.lsys_kept.specs.Neighbours.{neighbours_in}
-use Rattle.lsys_kept.specs.Seats.{neighbours_at, SameMarks, KeepsSeats}
+use Rattle.lsys_reads.specs.Neighbours.{neighbours_in}
+use Rattle.lsys_reads.specs.Seats.{neighbours_at, SameMarks, KeepsSeats}
 use Rattle.lsys_pass.proofs.seating.seat_all.Given as goal
 
 abbrev pub invariant-loop-node : goal.invariant-loop-node

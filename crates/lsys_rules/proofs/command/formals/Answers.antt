@@ -1,6 +1,6 @@
 use Rattle.std.proofs.Common.{subst, arith}
 use Rattle.lsys_text.specs.Tokens.{kind_row}
-use Rattle.lsys_checks.specs.Formals.{AreFormalNames}
+use Rattle.lsys_bodies.specs.Formals.{AreFormalNames}
 use Rattle.lsys_rules.proofs.RuleNames.{production_names, homomorphism_names, production_tokens, homomorphism_tokens, head_room}
 use Rattle.lsys_rules.proofs.command.formals.Goals as goal
 

@@ -3,7 +3,7 @@ use Rattle.lsys_spec.specs.Systems.{any}
 use Rattle.lsys_spec.specs.Edits.{put_hom}
 use Rattle.lsys_text.specs.Tokens.{kind_row}
 use Rattle.lsys_bodies.specs.Building.{homomorphism_at}
-use Rattle.lsys_checks.proofs.WholeSearch.{rest-room}
+use Rattle.lsys_bodies.proofs.WholeSearch.{rest-room}
 use Rattle.lsys_rules.proofs.Chains.{five_pairs, told_first, told_none}
 use Rattle.lsys_rules.proofs.rule_faults.homomorphism_fault.Goals as goal
 

@@ -2,7 +2,7 @@ use Rattle.std.proofs.Common.{◌∙◌, ◌+◌, arith}
 use Rattle.lsys_spec.specs.Edits.{label_place}
 use Rattle.lsys_text.specs.Tokens.{kind_row}
 use Rattle.lsys_bodies.specs.Building.{production_at}
-use Rattle.lsys_checks.proofs.WholeSearch.{rest-room}
+use Rattle.lsys_bodies.proofs.WholeSearch.{rest-room}
 use Rattle.lsys_rules.proofs.Chains.{in_pairs, told_first, told_none, label_free}
 use Rattle.lsys_rules.proofs.rule_faults.production_fault.Goals as goal
 

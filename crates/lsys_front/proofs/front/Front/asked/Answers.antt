@@ -3,7 +3,7 @@ use Rattle.std.proofs.lemmas.Result.{IfOk-weaker}
 use Rattle.std.proofs.lemmas.Grind.{common_steps}
 use Rattle.lsys_spec.specs.Rows.{In}
 use Rattle.lsys_forest.specs.Rows.{place_of_node}
-use Rattle.lsys_candidates.specs.Asks.{AreOnOneLevel}
+use Rattle.lsys_front.specs.Questioned.{AreOnOneLevel}
 use Rattle.lsys_front.specs.Asks.{MayBeAsked}
 use Rattle.lsys_front.proofs.Called.{called_are, called_all, asked_level, asked_are, placed_apart}
 use Rattle.lsys_front.proofs.front.Front.asked.Goals as goal

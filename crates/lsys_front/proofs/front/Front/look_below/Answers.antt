@@ -1,5 +1,5 @@
 use Rattle.std.proofs.Common.{◌≡◌, ◌++◌, refl, sym, ap, ◌∙◌, subst}
-use Rattle.lsys_kept.specs.Looks.{LooksAround, LooksBeyond, LooksAtMate, LooksInto}
+use Rattle.lsys_reads.specs.Looks.{LooksAround, LooksBeyond, LooksAtMate, LooksInto}
 use Rattle.lsys_front.specs.Fronts.{StandOn}
 use Rattle.lsys_front.proofs.Standing.{stand_left, stand_right, stand_spots, stand_lives}
 use Rattle.lsys_front.proofs.Looking.{Called, called, calls_look, calls_add, calls_keep}

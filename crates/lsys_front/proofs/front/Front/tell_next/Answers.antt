@@ -1,7 +1,7 @@
 use Rattle.std.proofs.Common.{◌++◌, ◌∙◌, List, ℕ, inl, inr, sym, ap, subst}
 use Rattle.lsys_spec.specs.Rows.{In}
-use Rattle.lsys_candidates.specs.Found.{LevelChanges}
-use Rattle.lsys_kept.proofs.MateLemmas.{on_ok}
+use Rattle.lsys_front.specs.Found.{LevelChanges}
+use Rattle.lsys_reads.proofs.MateLemmas.{on_ok}
 use Rattle.lsys_front.specs.Fronts.{StandOn}
 use Rattle.lsys_front.proofs.front.Front.tell_next.Goals as goal
 

@@ -5,7 +5,7 @@ use Rattle.lsys_spec.specs.Meaning.{meaning}
 use Rattle.lsys_spec.specs.Questions.{questions}
 use Rattle.lsys_match.specs.Kept.{Kept}
 use Rattle.lsys_forest.specs.Groves.{Grove, live_nodes}
-use Rattle.lsys_kept.specs.Meant.{levels_or_none}
+use Rattle.lsys_reads.specs.Meant.{levels_or_none}
 use Rattle.lsys_pass.specs.Views.{ForestView}
 use Rattle.lsys_pass.proofs.Holding.{live_is}
 use Rattle.lsys_pass.proofs.derivation.ForestDerivation.held.Goals as goal

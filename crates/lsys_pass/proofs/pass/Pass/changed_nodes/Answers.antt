@@ -1,5 +1,5 @@
 use Rattle.std.proofs.Common.{◌≡◌, ◌-◌, ℕ, List, length, take, drop, sym, subst, ap, ◌∙◌}
-use Rattle.lsys_kept.specs.Seats.{HasSeat}
+use Rattle.lsys_reads.specs.Seats.{HasSeat}
 use Rattle.lsys_front.specs.Fronts.{MayHaveOthers}
 use Rattle.lsys_pass.specs.Passes.{PassView}
 use Rattle.lsys_pass.specs.Fresh.{WasAsked}

@@ -5,9 +5,9 @@ use Rattle.lsys_spec.specs.Systems.{System}
 use Rattle.lsys_match.specs.Kept.{Kept}
 use Rattle.lsys_forest.specs.Nodes.{Nodes}
 use Rattle.lsys_forest.specs.Groves.{now_of}
-use Rattle.lsys_repair.specs.declared.count.Count.{Count}
-use Rattle.lsys_repair.specs.declared.parent.Parent.{Parent}
-use Rattle.lsys_repair.specs.Needs.{had_by_all, count_of_all, needs}
+use Rattle.lsys_children.specs.declared.count.Count.{Count}
+use Rattle.lsys_children.specs.declared.parent.Parent.{Parent}
+use Rattle.lsys_children.specs.Needs.{had_by_all, count_of_all, needs}
 use Rattle.lsys_pass.specs.Passes.{PassView, now_in, stage_of}
 use Rattle.lsys_pass.specs.Advances.{symbols_wanted}
 use Rattle.lsys_pass.proofs.NextCounts.{few_parents, had_small}

@@ -1,5 +1,5 @@
 use Rattle.std.proofs.Common.{sym, subst}
-use Rattle.lsys_kept.specs.Seats.{HasSeat}
+use Rattle.lsys_reads.specs.Seats.{HasSeat}
 use Rattle.lsys_pass.specs.Passes.{PassView}
 use Rattle.lsys_pass.specs.Fresh.{WasAsked, AreNextParents}
 use Rattle.lsys_pass.proofs.Marked.{was_told_as}

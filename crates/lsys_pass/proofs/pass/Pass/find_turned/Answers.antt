@@ -1,5 +1,5 @@
 use Rattle.std.proofs.Common.{rules, refl, sym, ap, ◌∙◌, subst}
-use Rattle.lsys_kept.specs.Seats.{HasSeat}
+use Rattle.lsys_reads.specs.Seats.{HasSeat}
 use Rattle.lsys_pass.specs.Passes.{PassView}
 use Rattle.lsys_pass.specs.Fresh.{WasJustMade}
 use Rattle.lsys_pass.proofs.Failing.{still_failed}

@@ -1,10 +1,10 @@
 use Rattle.std.proofs.Common.{◌≡◌, ℕ, List, false, map, sym, subst, ap, ◌∙◌}
 use Rattle.lsys_spec.specs.Rows.{In}
-use Rattle.lsys_change.specs.Children.{is_open}
-use Rattle.lsys_repair.specs.Answers.{kept_successors}
-use Rattle.lsys_repair.specs.declared.parent.Parent.{Parent}
-use Rattle.lsys_repair.specs.Parents.{nodes_in, uncut}
-use Rattle.lsys_repair.proofs.Walked.{whole_nodes}
+use Rattle.lsys_laws.specs.Children.{is_open}
+use Rattle.lsys_children.specs.Answers.{kept_successors}
+use Rattle.lsys_children.specs.declared.parent.Parent.{Parent}
+use Rattle.lsys_children.specs.Parents.{nodes_in, uncut}
+use Rattle.lsys_children.proofs.Walked.{whole_nodes}
 use Rattle.lsys_pass.specs.Passes.{PassView, now_in}
 use Rattle.lsys_pass.specs.Fresh.{WasAsked, AreNextParents, IsChanged}
 use Rattle.lsys_pass.proofs.NextParents.{may_on, lives_at, short, found_are, closed}

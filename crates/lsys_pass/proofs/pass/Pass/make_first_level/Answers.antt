@@ -2,7 +2,7 @@ use Rattle.std.proofs.Common.{◌≤◌, length, sym, ap, ◌∙◌, subst}
 use Rattle.lsys_spec.specs.Systems.{System}
 use Rattle.lsys_spec.specs.Meaning.{first_level}
 use Rattle.lsys_forest.specs.Groves.{now_of}
-use Rattle.lsys_repair.specs.Renewals.{AreSmall, AreAllUnder}
+use Rattle.lsys_children.specs.Renewals.{AreSmall, AreAllUnder}
 use Rattle.lsys_pass.specs.Passes.{PassView, now_in}
 use Rattle.lsys_pass.specs.Beginnings.{MakesFirst, WasStill}
 use Rattle.lsys_pass.proofs.Beginnings.{was_small, was_under, failed_still, first_fresh, first_goes}

@@ -1,8 +1,8 @@
 use Rattle.std.proofs.Common.{◌≡◌, ◌+◌, ◌-◌, false, length, List, sym, subst, ap, ◌∙◌, arith}
-use Rattle.lsys_repair.specs.Nexts.{AreClosed}
-use Rattle.lsys_repair.specs.Answers.{kept_successors}
-use Rattle.lsys_repair.specs.declared.parent.Parent.{Parent}
-use Rattle.lsys_repair.specs.Needs.{needs}
+use Rattle.lsys_children.specs.Nexts.{AreClosed}
+use Rattle.lsys_children.specs.Answers.{kept_successors}
+use Rattle.lsys_children.specs.declared.parent.Parent.{Parent}
+use Rattle.lsys_children.specs.Needs.{needs}
 use Rattle.lsys_pass.specs.declared.sizes.Size.{Size}
 use Rattle.lsys_pass.specs.Sizes.{with_level}
 use Rattle.lsys_pass.specs.Passes.{PassView, stage_of, now_in}

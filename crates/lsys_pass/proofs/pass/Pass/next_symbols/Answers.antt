@@ -1,8 +1,8 @@
 use Rattle.std.proofs.Common.{◌≡◌, ◌+◌, ◌^◌, ◌≤◌, ℕ, List, sum_by, sym, subst, ap, ◌∙◌, arith}
 use Rattle.lsys_spec.specs.Rows.{In}
 use Rattle.lsys_forest.specs.Groves.{now_of}
-use Rattle.lsys_repair.specs.declared.count.Count.{Count}
-use Rattle.lsys_repair.specs.Needs.{had_by_all, wanted_of_all}
+use Rattle.lsys_children.specs.declared.count.Count.{Count}
+use Rattle.lsys_children.specs.Needs.{had_by_all, wanted_of_all}
 use Rattle.lsys_pass.specs.Sizes.{symbols_at}
 use Rattle.lsys_pass.specs.Passes.{PassView, now_in}
 use Rattle.lsys_pass.specs.Fresh.{WasAsked}

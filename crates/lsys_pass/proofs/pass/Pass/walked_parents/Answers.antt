@@ -3,8 +3,8 @@ use Rattle.lsys_spec.specs.Rows.{In}
 use Rattle.lsys_match.specs.Kept.{Kept}
 use Rattle.lsys_forest.specs.Nodes.{Nodes}
 use Rattle.lsys_forest.specs.Groves.{now_of}
-use Rattle.lsys_repair.specs.declared.parent.Parent.{Parent}
-use Rattle.lsys_repair.specs.Parents.{cut_parents}
+use Rattle.lsys_children.specs.declared.parent.Parent.{Parent}
+use Rattle.lsys_children.specs.Parents.{cut_parents}
 use Rattle.lsys_pass.specs.Passes.{PassView, now_in}
 use Rattle.lsys_pass.specs.Fresh.{WasAsked, row_of, AreNextParents}
 use Rattle.lsys_pass.proofs.NextParents.{complete, few, short, walked_are, lives_at}

@@ -1,8 +1,0 @@
-use Rattle.std.specs.HashMap.{get}
-use Rattle.lsys_brood.specs.Matches.{same_child_number}
-use Rattle.lsys_brood.specs.Children.{numbers_of}
-use Rattle.lsys_brood.proofs.MatchLemmas.{IsTaken}
-use Rattle.lsys_brood.proofs.brood.take_all.Given as goal
-
-abbrev pub invariant-loop-child : goal.invariant-loop-child
-invariant-loop-child l = IsTaken (get same_child_number l.fn.nodes) (get same_child_number l.nodes) (numbers_of l.wanted) l.child-index l.found.items

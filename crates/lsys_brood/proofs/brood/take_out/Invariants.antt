@@ -1,4 +1,0 @@
-use Rattle.lsys_brood.proofs.brood.take_out.Given as goal
-
-abbrev pub invariant-loop-node : goal.invariant-loop-node
-invariant-loop-node g l = Unit {0}

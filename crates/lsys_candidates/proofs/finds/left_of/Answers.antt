@@ -1,5 +1,0 @@
-use Rattle.lsys_candidates.proofs.Beside.{left_told}
-use Rattle.lsys_candidates.proofs.finds.left_of.Goals as goal
-
-pub returns : goal.returns
-returns g c = left_told c.args.forest.now c.args.node c.left.result c.requires c.left.ensures

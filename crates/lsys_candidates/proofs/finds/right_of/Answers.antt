@@ -1,5 +1,0 @@
-use Rattle.lsys_candidates.proofs.Beside.{right_told}
-use Rattle.lsys_candidates.proofs.finds.right_of.Goals as goal
-
-pub returns : goal.returns
-returns g c = right_told c.args.forest.now c.args.node c.right.result c.requires c.right.ensures

@@ -1,5 +1,0 @@
-use Rattle.lsys_change.proofs.Limits.{same_levels}
-use Rattle.lsys_change.proofs.children.law_of_one_level.Goals as goal
-
-pub returns : goal.returns
-returns c = same_levels

@@ -1,5 +1,0 @@
-use Rattle.lsys_change.proofs.UpTo.{level_count, grown_to, disturbed_to}
-use Rattle.lsys_change.proofs.children.law_of_unfinished_levels.Goals as goal
-
-pub returns : goal.returns
-returns c = record { count = level_count; levels = grown_to; disturbed = disturbed_to }

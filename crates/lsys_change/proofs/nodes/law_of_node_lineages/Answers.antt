@@ -1,5 +1,0 @@
-use Rattle.lsys_change.proofs.Lineages.{child, apart, stays, tags}
-use Rattle.lsys_change.proofs.nodes.law_of_node_lineages.Goals as goal
-
-pub returns : goal.returns
-returns c = record { child = child; apart = apart; stays = stays; tags = tags }

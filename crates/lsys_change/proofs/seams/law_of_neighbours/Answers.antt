@@ -1,5 +1,0 @@
-use Rattle.lsys_change.proofs.Mirrors.{right_neighbour, left_neighbour}
-use Rattle.lsys_change.proofs.seams.law_of_neighbours.Goals as goal
-
-pub returns : goal.returns
-returns c = record { right = right_neighbour; left = left_neighbour }

@@ -1,5 +1,0 @@
-use Rattle.lsys_change.proofs.Placed.{settled, seat_told}
-use Rattle.lsys_change.proofs.seats.law_of_seats.Goals as goal
-
-pub returns : goal.returns
-returns c = record { settled = settled; disturbed = seat_told }

@@ -1,0 +1,34 @@
+pub mod MatchLemmas
+pub mod StepLemmas
+pub mod PlacedLemmas
+pub mod FoundLemmas
+pub mod Placing
+pub mod AllLemmas
+pub mod Bearing
+pub mod Wishing
+mod Filling
+mod BearingByPlace
+pub mod Needs
+pub mod Among
+pub mod Telling
+pub mod Making
+pub mod Levels
+pub mod Roots
+pub mod Walked
+pub mod Cutting
+pub mod Walking
+pub mod Listed
+pub mod Nexts
+pub mod Above
+pub mod Wants
+pub mod Renewing
+pub mod Walks
+pub mod Refused
+pub mod Firsts
+pub mod Replaced
+pub mod Families
+pub mod Lengths
+pub mod Finishing
+pub mod Depths
+pub mod AllNew
+pub mod BornChildren

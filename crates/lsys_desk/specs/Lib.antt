@@ -1,6 +1,0 @@
-pub mod Steps
-pub mod Views
-pub mod Motions
-pub mod Answers
-pub mod Growing
-pub mod Calls

@@ -1,5 +1,0 @@
-use Rattle.lsys_desks.proofs.Spending.{line_levels}
-use Rattle.lsys_desks.proofs.law_of_desk_levels.Goals as goal
-
-pub returns : goal.returns
-returns c = line_levels

@@ -1,9 +1,0 @@
-pub mod Sums
-pub mod Powers
-pub mod Stopping
-pub mod Squaring
-pub mod Alone
-pub mod LevelCounts
-pub mod Lengths
-pub mod Letters
-pub mod Told

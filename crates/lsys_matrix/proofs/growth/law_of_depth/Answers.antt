@@ -1,5 +1,0 @@
-use Rattle.lsys_matrix.proofs.Told.{within_depth}
-use Rattle.lsys_matrix.proofs.growth.law_of_depth.Goals as goal
-
-pub returns : goal.returns
-returns c = λ s limit t xs x h g. within_depth s limit xs h t x g

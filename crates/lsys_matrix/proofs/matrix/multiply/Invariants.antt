@@ -1,5 +1,0 @@
-use Rattle.lsys_matrix.proofs.Stopping.{RowsTo}
-use Rattle.lsys_matrix.proofs.matrix.multiply.Given as goal
-
-abbrev pub invariant-loop-i : goal.invariant-loop-i
-invariant-loop-i g l = RowsTo l.a l.i l.b l.entries.items

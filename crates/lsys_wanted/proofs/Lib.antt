@@ -1,3 +1,0 @@
-pub mod Wishing
-mod Filling
-mod Bearing

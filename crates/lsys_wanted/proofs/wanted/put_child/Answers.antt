@@ -1,6 +1,0 @@
-use Rattle.std.proofs.Common.{arith}
-use Rattle.std.proofs.lemmas.Grind.{elements}
-use Rattle.lsys_wanted.proofs.wanted.put_child.Goals as goal
-
-pub returns-in_ok-push : goal.returns-in_ok-push
-returns-in_ok-push c = grind (arith, elements)

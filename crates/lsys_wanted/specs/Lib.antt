@@ -1,3 +1,0 @@
-pub mod Wishes
-pub mod Counts
-pub mod Births

@@ -1,6 +1,0 @@
-use Rattle.std.proofs.Common.{arith}
-use Rattle.std.proofs.lemmas.Grind.{common_steps}
-use Rattle.lsys_words.proofs.options_of.Goals as goal
-
-pub returns-then-not-is_in_grammar-clause-options : goal.returns-then-not-is_in_grammar-clause-options
-returns-then-not-is_in_grammar-clause-options c = grind (arith, common_steps)

@@ -1,6 +1,0 @@
-use Rattle.std.proofs.Common.{arith}
-use Rattle.std.proofs.lemmas.Grind.{common_steps}
-use Rattle.lsys_words.proofs.setting.in_two.Goals as goal
-
-pub returns-clause-parts : goal.returns-clause-parts
-returns-clause-parts c = grind (arith, common_steps)
