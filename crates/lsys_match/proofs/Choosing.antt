@@ -30,7 +30,7 @@ module _ {A : Type 0} (whole : Told A) (t : Told Found) (old new : List Entry) w
 pub leads_all : {A : Type 0} (whole : Told A) (a : A) (now : List Entry) → Leads whole (says a) now → length now ≤ most_entries → IsTold whole now a
 leads_all whole a now h n = record { answer = h.answer; read_is = sym (take_all (most_entries + 1) whole.entries (let e : length whole.entries ≡ length now = ap length (h.entries ∙ append-nil now) in omega (arith, e, n)) ∙ h.entries ∙ append-nil now) }
 
--- behind a rule that was read whole
+-- after a rule that was read whole
 pub so_far_on : (place : ℕ) (old new : List Noted) (t : Told Found) (naming : ℕ → List ℕ) → entries_by naming new ≡ entries_by naming old ++ t.entries → after_rule (tried_so_far place old) t ≡ tried_so_far (place + 1) new
 so_far_on place old new t naming e =
     let n : length new ≡ length old + length t.entries = sym (length-map new (entry_by naming)) ∙ ap length e ∙ length-append (entries_by naming old) t.entries ∙ ap (λ k. k + length t.entries) (length-map old (entry_by naming)) in
@@ -99,7 +99,7 @@ module _ (naming : ℕ → List ℕ) (s : Site) (place : ℕ) (b : Body) (bs res
         let m = may_go_on o tt' (entries_by naming old) (entries_by naming new) found more place b e i.all in
         subst (λ d. Leads whole (all_from d (Ok more)) (entries_by naming new)) (so_far_on place old new tt' naming m.0) (leads_on whole tt' (entries_by naming old) (entries_by naming new) (all_from (after_rule td tt') (Ok more)) (all_by (Ok more) e) m.0)
 
-    -- memory was wanting behind the rule
+    -- memory was wanting after the rule
     pub all_read : IsFrontOf whole.entries (entries_by naming new)
     all_read =
         let x = all_from (after_rule td tt') (found_with found place b o) in

@@ -15,7 +15,7 @@ use Rattle.std.specs.Prelude.{option_map}
 use Rattle.std.proofs.lemmas.List.{length-map}
 use Rattle.std.proofs.lemmas.Option.{same_Some, slice_get-map, slice_get_within}
 
--- the rule at a place, and those behind it
+-- the rule at a place, and those after it
 pub at_place : {A : Type 0} (bs : List A) (i : ℕ) (b : A) → Some b ≡ slice_get bs i → (i < length bs) × (drop i bs ≡ b ∷ drop (i + 1) bs)
 at_place bs i b h = (slice_get_within bs i b (sym h), front bs i b (sym h))
   where
@@ -24,7 +24,7 @@ at_place bs i b h = (slice_get_within bs i b (sym h), front bs i b (sym h))
     front (c ∷ bs) zero b h = ap (λ x. x ∷ bs) (same_Some c b h)
     front (c ∷ bs) (suc i) b h = let e : suc (i + 1) ≡ suc i + 1 = omega arith in front bs i b h ∙ ap (λ k. b ∷ drop k (c ∷ bs)) e
 
--- there is none behind the last one
+-- there is none after the last one
 pub past_end : {A : Type 0} (bs : List A) (i : ℕ) → slice_get bs i ≡ None → drop i bs ≡ []
 past_end [] zero h = refl
 past_end [] (suc i) h = refl

@@ -41,7 +41,7 @@ pub record IsSoundAnswer (a : TagAnswer) : Type 0 where
   pub place : ℕ
   pub answer : IsAnswerAt system level row place a
 
--- so many entries were read: no more for want of memory, and else exactly so many
+-- so many entries were read: no more for lack of memory, and else exactly so many
 abbrev pub CountsEntries : {T : Type 0} → ℕ → ℕ → ℕ → Result T AskRefusal → Type 0
 CountsEntries n old new (Ok a) = new ≡ old + n
 CountsEntries n old new (Err (Fault k)) = new ≡ old + n

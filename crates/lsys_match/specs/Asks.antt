@@ -99,7 +99,7 @@ pub record IsTracePlaced (before after : Store) (runs : TraceRuns) (entries : Li
   pub fresh : AreFresh before runs entries values
   pub others : OtherTracesStay before after runs
 
--- this trace is kept with these parameters, but for want of memory
+-- this trace is kept with these parameters, but for lack of memory
 abbrev pub KeepsTrace : {E : Type 0} → Store → Store → List Entry → List ℤ → Result TraceRuns E
     → Type 0
 KeepsTrace before after entries values r =

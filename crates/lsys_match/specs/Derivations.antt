@@ -45,7 +45,7 @@ pub record AreMeant (old new : System) (limit : ℕ) (x y : List (List L.LevelSy
   pub before : meaning old limit ≡ Ok x
   pub after : meaning new limit ≡ Ok y
 
--- Why a system has no levels under a limit. Want of memory says nothing.
+-- Why a system has no levels under a limit. Out of memory says nothing.
 abbrev pub IsLevelRefusal : System → ℕ → DeriveRefusal → Type 0
 IsLevelRefusal s limit (Fault kind t n) = meaning s limit ≡ Err (FaultAt (fault_of kind) t n)
 IsLevelRefusal s limit (Limit t) = meaning s limit ≡ Err (OverLimit t)

@@ -8,7 +8,7 @@ use Rattle.lsys_spec.specs.Choice as choice
 use Rattle.lsys_match.specs.declared.refusal.AskRefusal.{AskRefusal}
 use Rattle.lsys_match.specs.declared.refusal.AskRefusal.TheVariants as ask
 
--- the fault; none for want of memory
+-- the fault; none for lack of memory
 abbrev pub refusal_by : AskRefusal → Option choice.Fault
 refusal_by (ask.Fault k) = Some (fault_of k)
 refusal_by ask.Memory = None

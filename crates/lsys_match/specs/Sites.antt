@@ -25,7 +25,7 @@ rule_told naming s d b = let x = level_by naming s.row in next_contexts (asking_
 abbrev pub first_told : (ℕ → List ℕ) → Site → Tried → List Body → Told Choice
 first_told naming s d bs = let x = level_by naming s.row in first_applying (asking_at s) (way x s.place) (items_from x (s.place + 1)) d bs
 
--- all of them that apply, behind those that were found before
+-- all of them that apply, after those that were found before
 abbrev pub all_told : (ℕ → List ℕ) → Site → Tried → Result (List Applying) Fault → List Body → Told (Result (List Applying) Fault)
 all_told naming s d found bs = let x = level_by naming s.row in all_applying (asking_at s) (way x s.place) (items_from x (s.place + 1)) d found bs
 

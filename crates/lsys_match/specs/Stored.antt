@@ -24,7 +24,7 @@ listed (Some list) = list
 abbrev pub entries_in : Store → Kept → List Entry
 entries_in s a = listed (list_of s.traces a.entries)
 
--- the parameters of the module, and behind them those of the modules that were read
+-- the parameters of the module, and after them those of the modules that were read
 abbrev pub values_in : Store → Kept → List ℤ
 values_in s a = listed (list_of s.values a.values)
 

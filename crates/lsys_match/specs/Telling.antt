@@ -41,7 +41,7 @@ choice_or (Err k) values = choice.Failed (fault_of k)
 abbrev pub IsChosenPlace : Choice → Result (Option ℕ) FaultKind → Type 0
 IsChosenPlace c r = (values : List ℤ) → choice_by c values ≡ choice_or r values
 
--- the successor where this is chosen, or its fault; want of memory says nothing
+-- the successor where this is chosen, or its fault; lack of memory says nothing
 abbrev pub IsSuccessor : List Body → ModuleValue → Option ℕ → List ℤ → Result (List Symbol) AskRefusal → Type 0
 IsSuccessor bs m chosen values (Ok symbols) = successor_by bs m (choice_at chosen values) ≡ Ok (string_of symbols)
 IsSuccessor bs m chosen values (Err (Fault k)) = successor_by bs m (choice_at chosen values) ≡ Err (fault_of k)

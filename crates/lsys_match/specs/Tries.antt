@@ -24,7 +24,7 @@ outcome_by code.No values = choice.No
 outcome_by code.Yes values = choice.Yes values
 outcome_by (code.Fails k) values = choice.Fails (fault_of k)
 
--- what was told is read behind what was read before, up to the first entry that is too many
+-- what was told is read after what was read before, up to the first entry that is too many
 abbrev pub ReadsTold : {A : Type 0} → Told A → List Entry → List Entry → Type 0
 ReadsTold t old new = new ≡ take (most_entries + 1) (old ++ t.entries)
 
@@ -33,7 +33,7 @@ abbrev pub MayGoOn : choice.Outcome → Told Found → List Entry → List Entry
 MayGoOn (choice.Fails k) t old new = Unit {0}
 MayGoOn o t old new = (new ≡ old ++ t.entries) × (length new ≤ most_entries)
 
--- this is the outcome of the rule, behind the entries that were read for others
+-- this is the outcome of the rule, after the entries that were read for others
 pub record IsTried (t : Told Found) (d : Tried) (b : Body) (old new : List Entry) (o : choice.Outcome) : Type 0 where
   pub answer : outcome most_entries d b t ≡ o
   pub read : ReadsTold t old new

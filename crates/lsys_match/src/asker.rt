@@ -9,7 +9,6 @@ ghost use Rattle.lsys_match.specs.Asking.{asked_level, same_group};
 ghost use Rattle.lsys_match.specs.Groups.{rules_found, rules_of};
 
 use crate::group::Group;
-use crate::scratch::Scratch;
 use lsys_bodies::Filter;
 use lsys_rules::System;
 use lsys_text::Name;
@@ -17,13 +16,14 @@ use std::alloc::Global;
 use std::marker::Model;
 
 /// Who asks about the modules of one level: what is the same for all of them, found once, where it is needed first, and
-/// room in which answers are worked out, which is used again from one to the next. Contracts see the system and the level.
+/// room for the values of formals, which is used again from one to the next. Contracts see the system and the level.
 #[derive(Drop)]
 pub struct Asker<'a> {
     system: &'a System,
     level: u32,
     filter: Option<Filter<'a>>,
-    pub(crate) scratch: Scratch,
+    /// The values of a rule's formals. What is left in it means nothing.
+    pub(crate) bound: Vec<i64>,
 }
 
 impl<'a> Model for Asker<'a> {
@@ -54,7 +54,7 @@ impl<'a> Asker<'a> {
             system,
             level,
             filter: None,
-            scratch: Scratch::new(alloc),
+            bound: Vec::new(alloc),
         }
     }
 

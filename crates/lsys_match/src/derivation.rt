@@ -26,7 +26,7 @@ pub trait Derivation<L: Ledger>: LevelView + Sized {
     ///
     /// # Errors
     ///
-    /// Want of memory.
+    /// Out of memory.
     fn start(alloc: Global, limit: u32) -> Result<Self, AllocError>
         requires { limit ≤ greatest_module_limit }
         ensures system { IfOk result (λ d. system_of d ≡ spec.opening) }
@@ -49,7 +49,7 @@ pub trait Derivation<L: Ledger>: LevelView + Sized {
     /// # Errors
     ///
     /// `Fault` and `Limit` are the refusal of the new system, exactly where it has no levels under the limit, and `Memory`
-    /// is want of memory. The derivation is then as before, at most as many questions were asked as the limit has symbols,
+    /// is lack of memory. The derivation is then as before, at most as many questions were asked as the limit has symbols,
     /// and at most 1,025 entries were read for each.
     fn edit<V: Ledger>(
         &mut self,

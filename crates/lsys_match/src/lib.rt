@@ -18,7 +18,6 @@ mod posed;
 mod question;
 mod recalled;
 mod refusal;
-mod scratch;
 mod site;
 mod steps;
 mod told;

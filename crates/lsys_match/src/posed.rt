@@ -65,22 +65,22 @@ impl<'a> Posed<'a> {
 
     /// The symbols that are kept of what replaces the module: the successor of the rule at a place of its group, where these
     /// are the values of the rule's formals, or the module itself where no rule is chosen. None are kept where they stand in
-    /// the rule's body. Nothing is left over in their vector, since they are worked out in `symbols`, which may be used again.
+    /// the rule's body. They are worked out where they stay, in room for them alone.
     pub(crate) fn kept_symbols(
         &self,
         alloc: Global,
-        symbols: &mut SymbolList,
         chosen: Option<u8>,
         bound: &[i64],
     ) -> Result<SymbolList, AskRefusal>
         requires { length self.now.params.now ≤ 8 }
         ensures { IsSuccessorKept self.now chosen bound.now result }
     {
+        let mut symbols = SymbolList::new(alloc);
         if self.has_constant(chosen) {
-            return Ok(SymbolList::new(alloc));
+            return Ok(symbols);
         }
-        self.replace(symbols, chosen, bound)?;
-        Ok(symbols.clone()?)
+        self.replace(&mut symbols, chosen, bound)?;
+        Ok(symbols)
     }
 
     // What replaces the module stands in the body of the rule at a place, whose successor has no parameters.
@@ -98,18 +98,19 @@ impl<'a> Posed<'a> {
         body.constant().is_some()
     }
 
-    // Puts what replaces the module in the place of these symbols.
+    // Puts what replaces the module into an empty list.
     fn replace(
         &self,
         symbols: &mut SymbolList,
         chosen: Option<u8>,
         bound: &[i64],
     ) -> Result<(), AskRefusal>
-        requires { length self.now.params.now ≤ 8 }
+        requires few { length self.now.params.now ≤ 8 }
+        requires empty { symbols.old ≡ [] }
         ensures { IsSuccessorOf self.now chosen bound.now (replaced_by symbols.new result) }
     {
-        symbols.truncate(0);
         let Some(place) = chosen else {
+            symbols.reserve(1)?;
             symbols.push(Symbol::Module(Module {
                 name: self.name,
                 params: Params::of(self.params),

@@ -36,7 +36,7 @@ use std::sync::ledger::Ledger;
 ///
 /// # Errors
 ///
-/// `Fault` has the module's first fault, and `Memory` is want of memory; what is kept in the store then stays, and at most
+/// `Fault` has the module's first fault, and `Memory` is lack of memory; what is kept in the store then stays, and at most
 /// the entries of the trace were read.
 pub fn ask<'a, W: LevelView, L: Ledger, V: Ledger>(
     alloc: Global,
@@ -185,7 +185,7 @@ fn keep<L: Ledger>(
     })
 }
 
-// Keeps a trace, with the parameters of a module and behind them those that were read. They are joined first only where
+// Keeps a trace, with the parameters of a module and after them those that were read. They are joined first only where
 // there are some of both.
 fn place(
     alloc: Global,

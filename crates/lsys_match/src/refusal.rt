@@ -11,7 +11,7 @@ pub enum AskRefusal {
     /// The module can't be replaced.
     #[error("{kind}")]
     Fault { kind: FaultKind },
-    /// Want of memory.
+    /// Out of memory.
     #[error("out of memory")]
     Memory,
 }

@@ -9,7 +9,6 @@ use crate::asker::Asker;
 use crate::choice::Choice;
 use crate::posed::Posed;
 use crate::refusal::AskRefusal;
-use crate::scratch::Scratch;
 use crate::site::Site;
 use lsys_level::LevelView;
 use lsys_module::SymbolList;
@@ -65,7 +64,7 @@ impl<'a> Posed<'a> {
             return self.tell_plain(alloc, old);
         }
         let site = Site::new(view, spot, self.name, self.params, by.filter());
-        self.tell(alloc, &site, old, &mut by.scratch, visited)
+        self.tell(alloc, &site, old, &mut by.bound, visited)
     }
 
     /// Chooses the first rule of a group that is plain: nothing is read.
@@ -77,8 +76,7 @@ impl<'a> Posed<'a> {
         if is_unread(old) {
             return Ok(Told::Same);
         }
-        let mut symbols = SymbolList::new(alloc);
-        let kept = self.kept_symbols(alloc, &mut symbols, Some(0), self.params)?;
+        let kept = self.kept_symbols(alloc, Some(0), self.params)?;
         Ok(Told::Other(Reply {
             trace: Trace::new(alloc),
             chosen: Some(0),
@@ -92,7 +90,7 @@ impl<'a> Posed<'a> {
         alloc: Global,
         site: &Site<'a, W>,
         old: Option<OldTrace<'_>>,
-        scratch: &mut Scratch,
+        bound: &mut Vec<i64>,
         visited: &mut Counter<V>,
     ) -> Result<Told, AskRefusal>
         requires site { site.now.own ≡ (posed_by self.now).own }
@@ -102,36 +100,29 @@ impl<'a> Posed<'a> {
         ensures visited { CountsTold self.now site.now visited.old visited.new result }
     {
         let mut trace = beside(old, alloc);
-        let choice = site.choose(
-            alloc,
-            &self.group,
-            self.key,
-            &mut trace,
-            &mut scratch.bound,
-            visited,
-        )?;
+        let choice = site.choose(alloc, &self.group, self.key, &mut trace, bound, visited)?;
         let chosen = place_of(choice)?;
         if is_read(old, &trace) {
             return Ok(Told::Same);
         }
-        match self.reply(alloc, trace, chosen, scratch) {
+        match self.reply(alloc, trace, chosen, bound) {
             Ok(reply) => Ok(Told::Other(reply)),
             Err(refusal) => Err(refusal),
         }
     }
 
-    /// The reply, where this was read and chosen. The values of the chosen rule's formals are in `scratch`.
+    /// The reply, where this was read and chosen, by the values of the chosen rule's formals.
     fn reply(
         &self,
         alloc: Global,
         trace: Reading<'_>,
         chosen: Option<u8>,
-        scratch: &mut Scratch,
+        bound: &[i64],
     ) -> Result<Reply, AskRefusal>
         requires { length self.now.params.now ≤ 8 }
-        ensures { IsReplyOf self.now trace.entry.read chosen scratch.old.bound.items result }
+        ensures { IsReplyOf self.now trace.entry.read chosen bound.now result }
     {
-        let symbols = self.kept_symbols(alloc, &mut scratch.symbols, chosen, &scratch.bound)?;
+        let symbols = self.kept_symbols(alloc, chosen, bound)?;
         Ok(Reply {
             trace: trace.finish()?,
             chosen,

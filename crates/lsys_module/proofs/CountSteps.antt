@@ -34,7 +34,7 @@ room_params c n e h =
 longer : (ys : List (Symbol ℤ)) (x : Symbol ℤ) → length (ys ++ x ∷ []) ≡ length ys + 1
 longer ys x = length-append ys (x ∷ [])
 
--- behind a name, a token that begins no parameters
+-- after a name, a token that begins no parameters
 abbrev NoParen : Glyph → Type 0
 NoParen glyphs.Open = ⊥
 NoParen g = Unit {0}

@@ -35,7 +35,7 @@ stopped from tokens xs i t d c h is reading counts told none =
     (λ free. let step = can free in let next = step-counted d step.0 c g (kind_name (kind_of t.kind)) counts free step.1 in (next.0, next.1)) none in
     refused from tokens xs i t d h is reading limit told
 
--- what is read behind a token that the counter takes
+-- what is read after a token that the counter takes
 abbrev pub Reads : ℕ → List Token → ℕ → Counter → Type 0
 Reads from tokens place c = (d : Draft) × IsReading from tokens place d × CountsDraft d c
 

@@ -53,11 +53,11 @@ same-limit old new ys n g h other = rw (h.name, h.symbol) (named-limit ys n g ot
 same-step : (old new : Draft) (ys : List (Symbol ℤ)) (n : ModuleName) (g : Glyph) (m : ModuleName) → AreNamed old new ys n → (g ≡ Open → ⊥) → draft_step old g m ≡ draft_step new g m
 same-step old new ys n g m h other = rw (h.name, h.symbol) (named-step ys n g m other)
 
--- a string that goes on behind the name goes on behind its symbol
+-- a string that goes on after the name goes on after its symbol
 pub named-can_take : (old new : Draft) (ys : List (Symbol ℤ)) (n : ModuleName) (k : Kind) → AreNamed old new ys n → (glyph_of k ≡ Open → ⊥) → CanTake old k → CanTake new k
 named-can_take old new ys n k h other can = can_take-same old new k (same-limit old new ys n (glyph_of k) h other) (same-step old new ys n (glyph_of k) (kind_name k) h other) can
 
--- what was taken behind the symbol was taken behind the name
+-- what was taken after the symbol was taken after the name
 pub named-taken : (old new end : Draft) (ys : List (Symbol ℤ)) (n : ModuleName) (t : Token) (r : Result (Unit {0}) StringRefusal) → AreNamed old new ys n → (glyph_of (kind_of t.kind) ≡ Open → ⊥) → IsTaken new t end r → IsTaken old t end r
 named-taken old new end ys n t r h other is =
     let g = glyph_of (kind_of t.kind) in

@@ -45,7 +45,7 @@ one_written values kept i few h fits is =
       small = rw more (each-push (take i values) v is.small (is_param v fits));
     }
 
--- all the values, and zeros behind them
+-- all the values, and zeros after them
 pub all_written : (values kept : List ℤ) (i : ℕ) → length values ≤ 8 → length values ≡ i → AreWritten values kept i → IsPadded (record { values = kept; len = length values })
 all_written values kept i few is h =
     let n = length values in

@@ -25,7 +25,7 @@ params-text print x xs =
     (text_of-append (print x) (more_pieces print xs ++ closed)
     ∙ ap (λ t. text_of (print x) ++ t) (text_of-append (more_pieces print xs) closed ∙ ap (λ t. t ++ 41 ∷ []) (more-text print xs)))
 
--- the parameters up to a place, the one there, and those behind it
+-- the parameters up to a place, the one there, and those after it
 pub more_text-append : {P : Type 0} (print : P → List Piece) (xs ys : List P) → more_text print (xs ++ ys) ≡ more_text print xs ++ more_text print ys
 more_text-append print [] ys = refl
 more_text-append print (x ∷ xs) ys = ap (λ t. 44 ∷ text_of (print x) ++ t) (more_text-append print xs ys) ∙ sym (append_assoc (44 ∷ text_of (print x)) (more_text print xs) (more_text print ys))
@@ -44,7 +44,7 @@ gap-string print runs_on (x ∷ xs) =
     (text_of-append (gap (ends_in_name x) (begins_with_letter xs)) (string_pieces print xs) ∙ gap-string print (ends_in_name x) xs))
     ∙ sym (append_assoc (gap_text runs_on (starts_with_letter x)) (text_of (symbol_pieces print x)) (symbols_behind print (ends_in_name x) xs))
 
--- a printed string is its symbols, each behind its blank
+-- a printed string is its symbols, each after its blank
 pub string-text : {P : Type 0} (print : P → List Piece) (xs : List (Symbol P)) → text_of (string_pieces print xs) ≡ symbols_behind print false xs
 string-text print xs = gap-string print false xs
 
@@ -53,7 +53,7 @@ abbrev pub last_runs_on : {P : Type 0} → Bool → List (Symbol P) → Bool
 last_runs_on runs_on [] = runs_on
 last_runs_on runs_on (x ∷ xs) = last_runs_on (ends_in_name x) xs
 
--- symbols, and others behind them
+-- symbols, and others after them
 pub symbols_behind-append : {P : Type 0} (print : P → List Piece) (runs_on : Bool) (xs ys : List (Symbol P))
     → symbols_behind print runs_on (xs ++ ys) ≡ symbols_behind print runs_on xs ++ symbols_behind print (last_runs_on runs_on xs) ys
 symbols_behind-append print runs_on [] ys = refl
@@ -84,7 +84,7 @@ more_text-step print f xs i d h e =
     ap (more_text print) (map-more f xs i d h e) ∙ more_text-append print (map f (take i xs)) (f d ∷ [])
     ∙ ap (λ t. more_text print (map f (take i xs)) ++ 44 ∷ t) (append-nil (text_of (print (f d))))
 
--- the parameters up to a place, and those behind it
+-- the parameters up to a place, and those after it
 pub more_text-rest : {X P : Type 0} (print : P → List Piece) (f : X → P) (xs : List X) (i : ℕ) → more_text print (map f xs) ≡ more_text print (map f (take i xs)) ++ more_text print (map f (drop i xs))
 more_text-rest print f xs i =
     ap (λ ys. more_text print (map f ys)) (sym (take-append-drop i xs)) ∙ ap (more_text print) (map-append f (take i xs) (drop i xs))
@@ -98,7 +98,7 @@ symbols-step print f runs_on items i d h e = ap (symbols_behind print runs_on) (
 pub runs_on-step : {X P : Type 0} (f : X → Symbol P) (runs_on : Bool) (items : List X) (i : ℕ) (d : X) → i < length items → d ≡ get_or items i d → last_runs_on runs_on (map f (take (i + 1) items)) ≡ ends_in_name (f d)
 runs_on-step f runs_on items i d h e = ap (last_runs_on runs_on) (map-more f items i d h e) ∙ last_runs_on-append runs_on (map f (take i items)) (f d)
 
--- the items up to a place, and those behind it, put as a string
+-- the items up to a place, and those after it, put as a string
 pub string-rest : {X P : Type 0} (print : P → List Piece) (f : X → Symbol P) (items : List X) (i : ℕ)
     → text_of (string_pieces print (map f items)) ≡ symbols_behind print false (map f (take i items)) ++ symbols_behind print (last_runs_on false (map f (take i items))) (map f (drop i items))
 string-rest print f items i =

@@ -95,7 +95,7 @@ goes_on t n p place d k ps e out small limit step rest =
     ∙ joined (nat_lt most_params p) place (kinds_of ps) e more out (λ b. rest (below most_params p b))
     ∙ ap (λ b. outcome (if b then Some place else more) out) (sym passed)
 
--- behind whole symbols the pieces add these
+-- after whole symbols the pieces add these
 abbrev Runs : List Piece → List (Symbol ℤ) → Type 0
 Runs ps more = (t p place : ℕ) (ys : List (Symbol ℤ)) → length ys ≤ most_axiom_symbols → run place (whole ys) (kinds_of ps) ≡ outcome (many_place (counted t (length ys) p) place ps) (ys ++ more)
 
@@ -176,7 +176,7 @@ number-run t place ys n us (minus_sign m) ps out g small rest =
     let room : nat_lt (length us) most_params ≡ true = grind (arith, nat_tests, h) in
     goes_on (t + 1) (length ys + 1) (length us + 1) (place + 1) (minus_read ys n us) (Number m) ps (number_read ys n (us ++ negative m ∷ [])) out small (sym (within most_params (length us + 1) h)) (small_minus ys n us m room fits) (λ i. rest (t + 1 + 1) (place + 1 + 1) h))
 
--- behind a parameter
+-- after a parameter
 read-run : (zs : List Signed) (ps : List Piece) (more : List (Symbol ℤ)) → Runs ps more → EachOf IsSigned zs → (ys : List (Symbol ℤ)) (n : ModuleName) → length ys + 1 ≤ most_axiom_symbols → (t place : ℕ) (us : List ℤ) → length us ≤ most_params
     → run place (number_read ys n us) (kinds_of (closing zs ps)) ≡ outcome (many_place (counted t (length ys + 1) (length us)) place (closing zs ps)) (ys ++ Module n (us ++ map signed_value zs) ∷ more)
 read-run [] ps more runs g ys n small t place us room =

@@ -12,7 +12,7 @@ use Rattle.lsys_module.specs.declared.scan.Progress.{Progress}
 use Rattle.lsys_module.specs.Scanning.{string_verdict, TellsString, glyph_of, progress_step, may_end, refused_from}
 use Rattle.lsys_module.proofs.Scanned.{IsVerdict, after_step, refused-step, scan-verdict}
 
--- the kind at a place, and those behind it
+-- the kind at a place, and those after it
 pub kinds-at : (tokens : List Token) (i : ℕ) (t : Token) → i < length tokens → t ≡ get_or tokens i t → drop i (kind_row tokens) ≡ kind_of t.kind ∷ drop (i + 1) (kind_row tokens)
 kinds-at tokens i t h e =
     let kind : Token → syntax.Kind = λ t. kind_of t.kind in
@@ -31,7 +31,7 @@ refused-turn tokens i t p g o h e glyph is =
     let same : progress_step p (glyph_of (kind_of t.kind)) ≡ o = ap (λ u. progress_step p (glyph_of (kind_of u.kind))) e ∙ ap (progress_step p) (sym glyph) ∙ sym is in
     ap (refused_from i p) (kinds-at tokens i t h e) ∙ refused-step i p (kind_of t.kind) rest ∙ ap (after_step i rest) same
 
--- behind the last token
+-- after the last token
 pub refused-end : (tokens : List Token) (i : ℕ) (p : Progress) (b : Bool) → length tokens ≤ i → b ≡ may_end p.spot p.branches → refused_from i p (drop i (kind_row tokens)) ≡ (if b then None else Some i)
 refused-end tokens i p b h e =
     let kind : Token → syntax.Kind = λ t. kind_of t.kind in

@@ -23,7 +23,7 @@ progress_of (NumberDue r n zs) = record { spot = spots.NumberDue; branches = ope
 progress_of (MinusRead r n zs) = record { spot = spots.MinusRead; branches = open_in r }
 progress_of (NumberRead r n zs) = record { spot = spots.NumberRead; branches = open_in r }
 
--- behind a number there is one
+-- after a number there is one
 abbrev pub IsReached : AxiomState → Type 0
 IsReached (NumberRead r n []) = ⊥
 IsReached a = Unit {0}

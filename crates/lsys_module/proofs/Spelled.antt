@@ -27,7 +27,7 @@ sentence-anywhere (k ∷ ks) m n s c e =
     ∙ tests-anywhere (is_stop (line_step s k)) (nat_lt nesting_bound (line_depth (line_step s k))) m n (verdict_from (m + 1) (line_step s k) ks) (verdict_from (n + 1) (line_step s k) ks) c
     (sentence-anywhere ks (m + 1) (n + 1) (line_step s k) c) (sym (verdict-tests m s k ks) ∙ e)
 
--- the tokens of a string behind a blank
+-- the tokens of a string after a blank
 pub behind-string : (xs : List (Symbol Signed)) → kinds_of (string_behind xs) ≡ kinds_of (string_pieces signed_pieces xs)
 behind-string [] = refl
 behind-string (x ∷ xs) = refl

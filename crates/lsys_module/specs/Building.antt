@@ -30,7 +30,7 @@ AreOfLine tokens = (n : ℕ) × All (LiesInLine n) tokens
 abbrev pub token_column : List Token → ℕ → Option ℕ
 token_column tokens place = option_map (λ t. t.start + 1) (slice_get tokens place)
 
--- the values of a string that passes no limit, or the column of the token at which it passes one; want of memory says nothing
+-- the values of a string that passes no limit, or the column of the token at which it passes one; lack of memory says nothing
 abbrev pub IsBuiltOf : ℕ → List Token → List (Symbol Signed) → Result (List CodeSymbol) StringRefusal → Type 0
 IsBuiltOf from tokens xs (Ok symbols) = (string_of symbols ≡ values_of xs) × (axiom_many from xs ≡ None)
 IsBuiltOf from tokens xs (Err (TooMany column)) = (place : ℕ) × (axiom_many from xs ≡ Some place) × (token_column tokens place ≡ Some column)
@@ -41,7 +41,7 @@ abbrev pub IsBuiltBy : ℕ → List Token → Verdict → Result (List CodeSymbo
 IsBuiltBy from tokens (sentence (set_axiom xs)) result = IsBuiltOf from tokens xs result
 IsBuiltBy from tokens v result = ⊥
 
--- What was read: symbols, and then, where they are not all, a name, behind which a `(` may follow, or some of a module's parameters.
+-- What was read: symbols, and then, where they are not all, a name, after which a `(` may follow, or some of a module's parameters.
 pub data Draft : Type 0 where
   whole : List (Symbol ℤ) → Draft
   named : List (Symbol ℤ) → ModuleName → Draft
@@ -127,7 +127,7 @@ abbrev pub IsPartBehindDue : CodeModule → Glyph → Part → Type 0
 IsPartBehindDue m g part =
     (ys : List (Symbol ℤ)) → before_number_step ys (module_name m.name) m.params g ≡ Some (draft_by_part part ys)
 
--- the last module goes on so with a token behind a sign
+-- the last module goes on so with a token after a sign
 abbrev pub IsPartBehindMinus : CodeModule → Glyph → Part → Type 0
 IsPartBehindMinus m g part =
     (ys : List (Symbol ℤ)) → after_minus_step ys (module_name m.name) m.params g ≡ Some (draft_by_part part ys)
@@ -140,7 +140,7 @@ draft_of b = draft_by_part b.part (string_of b.symbols)
 abbrev pub CanTake : Draft → Kind → Type 0
 CanTake d k = draft_limit d (glyph_of k) ≡ false → (e : Draft) × (draft_step d (glyph_of k) (kind_name k) ≡ Some e)
 
--- the token was taken, or it is one too many and this is its column; want of memory says nothing
+-- the token was taken, or it is one too many and this is its column; lack of memory says nothing
 abbrev pub IsTaken : Draft → Token → Draft → Result (Unit {0}) StringRefusal → Type 0
 IsTaken old t new (Ok done) = (draft_limit old (glyph_of (kind_of t.kind)) ≡ false) × (draft_step old (glyph_of (kind_of t.kind)) (kind_name (kind_of t.kind)) ≡ Some new)
 IsTaken old t new (Err (TooMany column)) = (draft_limit old (glyph_of (kind_of t.kind)) ≡ true) × (column ≡ t.start + 1)

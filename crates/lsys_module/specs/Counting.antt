@@ -19,7 +19,7 @@ IsLimitPlace from v place = ⊥
 abbrev pub with_spot : Spot → Counter → Counter
 with_spot spot c = record c { spot = spot }
 
--- behind a symbol's first token
+-- after a symbol's first token
 abbrev pub spot_behind : Glyph → Spot
 spot_behind glyphs.Name = BehindName
 spot_behind glyphs.Minus = BehindName

@@ -8,15 +8,15 @@ use Rattle.lsys_spec.specs.Systems.{module_name_text}
 abbrev pub gap_text : Bool → Bool → List ℕ
 gap_text runs_on letter = text_of (gap runs_on letter)
 
--- a name, behind a blank where it needs one
+-- a name, after a blank where it needs one
 abbrev pub name_behind : Bool → ModuleName → List ℕ
 name_behind runs_on name = gap_text runs_on (is_letters name) ++ module_name_text name
 
--- a symbol, behind a blank where it needs one
+-- a symbol, after a blank where it needs one
 abbrev pub symbol_behind : {P : Type 0} → (P → List Piece) → Bool → Symbol P → List ℕ
 symbol_behind print runs_on s = gap_text runs_on (starts_with_letter s) ++ text_of (symbol_pieces print s)
 
--- symbols, each behind a blank where it needs one
+-- symbols, each after a blank where it needs one
 abbrev pub symbols_behind : {P : Type 0} → (P → List Piece) → Bool → List (Symbol P) → List ℕ
 symbols_behind print runs_on [] = []
 symbols_behind print runs_on (x ∷ xs) = symbol_behind print runs_on x ++ symbols_behind print (ends_in_name x) xs
@@ -30,6 +30,6 @@ abbrev pub more_text : {P : Type 0} → (P → List Piece) → List P → List �
 more_text print [] = []
 more_text print (x ∷ xs) = 44 ∷ text_of (print x) ++ more_text print xs
 
--- a letter directly behind a module with this name and no parameters is read as part of the name
+-- a letter directly after a module with this name and no parameters is read as part of the name
 abbrev pub runs_on_after : ModuleName → Bool
 runs_on_after name = ends_in_name {P = ℕ} (Module name [])

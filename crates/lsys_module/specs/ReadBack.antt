@@ -11,7 +11,7 @@ abbrev pub tokens_verdict : ℕ → Result (List Token) ℕ → Option Verdict
 tokens_verdict place (Ok tokens) = Some (verdict_from place (InAxiom (Symbols [])) (map (λ t. t.kind) tokens))
 tokens_verdict place (Err column) = None
 
--- a text behind so many bytes and tokens of a line, read as names and then as a string
+-- a text after so many bytes and tokens of a line, read as names and then as a string
 abbrev pub text_verdict : ℕ → ℕ → List ℕ → Option Verdict
 text_verdict start place text = tokens_verdict place (tokens_from Modules zero start text)
 

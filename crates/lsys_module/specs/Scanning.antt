@@ -49,7 +49,7 @@ glyph_of syntax.Comma = Comma
 glyph_of (syntax.Number n) = Number n
 glyph_of k = Other
 
--- behind a `]`, where a branch is open
+-- after a `]`, where a branch is open
 abbrev pub branch_closed : ℕ → Option Progress
 branch_closed zero = None
 branch_closed (suc n) = Some (record { spot = Between false; branches = n })

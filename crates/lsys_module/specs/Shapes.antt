@@ -20,10 +20,10 @@ pub record NotationOf (S P W : Type 0) : Type 0 where
   pub param : P → W
   pub print : W → List Piece
 
--- a symbol as it is printed, behind a blank where it needs one
+-- a symbol as it is printed, after a blank where it needs one
 abbrev pub behind_in : {S P W : Type 0} → NotationOf S P W → Bool → S → List ℕ
 behind_in way runs_on x = symbol_behind way.print runs_on (way.symbol x)
 
--- symbols as they are printed one behind the other
+-- symbols as they are printed one after the other
 abbrev pub text_in : {S P W : Type 0} → NotationOf S P W → List S → List ℕ
 text_in way xs = text_of (strings.string_pieces way.print (map way.symbol xs))

@@ -26,7 +26,7 @@ pub(crate) const MOST_PARAMS: usize = 8;
 /// # Errors
 ///
 /// `TooMany` has the column of the first token of the first symbol past 4,096, or of the first parameter
-/// of a module past 8, whichever stands first. `Memory` is want of memory.
+/// of a module past 8, whichever stands first. `Memory` is lack of memory.
 pub fn build_string(
     alloc: Global,
     tokens: &[Token],
@@ -49,12 +49,12 @@ pub fn build_string(
     Ok(builder.finish()?)
 }
 
-/// What was read behind the symbols that are whole.
+/// What was read after the symbols that are whole.
 #[derive(Clone, Copy)]
 pub(crate) enum Part {
     /// Nothing.
     Whole,
-    /// A name, behind which a `(` may follow.
+    /// A name, after which a `(` may follow.
     Named(Name),
     /// A module whose next parameter is due.
     NumberDue(Module),
@@ -98,7 +98,7 @@ impl Builder {
         }
     }
 
-    // Reads a token behind a name: parameters follow, or the name is a symbol.
+    // Reads a token after a name: parameters follow, or the name is a symbol.
     fn take_behind_name(&mut self, name: Name, token: Token) -> Result<(), StringRefusal>
         requires form { IsToken (kind_of token.kind) }
         requires text { token.start < token.end }
@@ -114,7 +114,7 @@ impl Builder {
         self.take_symbol(token)
     }
 
-    // Reads a token behind a parameter.
+    // Reads a token after a parameter.
     fn take_behind_number(&mut self, last: Module, token: Token) -> Result<(), StringRefusal>
         requires behind_number { self.old.part ≡ Part.NumberRead last }
         requires goes_on { CanTake (draft_of self.old) (kind_of token.kind) }
@@ -191,7 +191,7 @@ fn bare(name: Name) -> Module
     }
 }
 
-// Behind a number or a sign that was due.
+// After a number or a sign that was due.
 fn behind_due(last: Module, glyph: Glyph) -> Part
     requires few { length last.params < 8 }
     requires goes_on { IsSome (before_number_step [] (module_name last.name) last.params glyph) }
@@ -207,7 +207,7 @@ fn behind_due(last: Module, glyph: Glyph) -> Part
     }
 }
 
-// Behind a number that follows a sign.
+// After a number that follows a sign.
 fn behind_minus(last: Module, glyph: Glyph) -> Part
     requires { IsSome (after_minus_step [] (module_name last.name) last.params glyph) }
     ensures { IsPartBehindMinus last glyph result }

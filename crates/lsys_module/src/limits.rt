@@ -38,11 +38,11 @@ pub fn first_many(tokens: &[Token], from: usize) -> Option<usize>
 pub(crate) enum Spot {
     /// Outside of parentheses, where none begin.
     Outside,
-    /// Behind a name, where they may begin.
+    /// After a name, where they may begin.
     BehindName,
     /// In parentheses, where a parameter begins.
     ParamDue,
-    /// In parentheses, behind the first token of a parameter.
+    /// In parentheses, after the first token of a parameter.
     InParam,
 }
 
@@ -55,7 +55,7 @@ pub(crate) struct Counter {
 }
 
 impl Counter {
-    // The count behind one more token, or None where that token is one too many.
+    // The count after one more token, or None where that token is one too many.
     fn behind(self, glyph: Glyph) -> Option<Counter>
         ensures { result ≡ counter_step self glyph }
     {
@@ -102,7 +102,7 @@ impl Counter {
     }
 }
 
-// Behind a symbol's first token outside of parentheses.
+// After a symbol's first token outside of parentheses.
 fn spot_behind(glyph: Glyph) -> Spot
     ensures { result ≡ spot_behind glyph }
 {

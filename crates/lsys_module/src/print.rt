@@ -56,7 +56,7 @@ impl Notation<Symbol, i64> for Strings {
     }
 }
 
-/// Puts symbols one behind the other, and a blank where the one before would be read on.
+/// Puts symbols one after the other, and a blank where the one before would be read on.
 ///
 /// # Errors
 ///
@@ -75,8 +75,8 @@ pub fn put_symbols<K: Sink, S, P, N: Notation<S, P>>(
     Ok(())
 }
 
-/// Puts a symbol, behind a blank where the one before runs on and this one begins with a letter. Answers whether a
-/// letter directly behind it would be read as part of it.
+/// Puts a symbol, after a blank where the one before runs on and this one begins with a letter. Answers whether a
+/// letter directly after it would be read as part of it.
 ///
 /// # Errors
 ///
@@ -111,8 +111,8 @@ fn put_mark<K: Sink>(out: &mut Buffered, sink: &mut K, mark: &[u8]) -> Result<bo
     Ok(false)
 }
 
-/// Puts a name, behind a blank where it begins with a letter and the one before runs on. Answers whether a letter
-/// directly behind it would be read as part of it.
+/// Puts a name, after a blank where it begins with a letter and the one before runs on. Answers whether a letter
+/// directly after it would be read as part of it.
 ///
 /// # Errors
 ///
@@ -167,7 +167,7 @@ fn put_params<K: Sink, S, P, N: Notation<S, P>>(
     out.put(sink, b")")
 }
 
-// Puts parameters, each behind a comma.
+// Puts parameters, each after a comma.
 fn put_more<K: Sink, S, P, N: Notation<S, P>>(
     out: &mut Buffered,
     sink: &mut K,

@@ -9,7 +9,7 @@ pub enum StringRefusal {
     /// The column, from 1, of the first token of a symbol or a parameter that is one too many.
     #[error("column {column} begins one too many")]
     TooMany { column: u32 },
-    /// Want of memory.
+    /// Out of memory.
     #[error("out of memory")]
     Memory,
 }

@@ -11,13 +11,13 @@ use lsys_text::{PlaceRefusal, Token};
 /// Where the next token stands.
 #[derive(Clone, Copy)]
 pub(crate) enum Spot {
-    /// Between symbols. The last one is a module without parameters, behind which a `(` may stand, or not.
+    /// Between symbols. The last one is a module without parameters, after which a `(` may stand, or not.
     Between { bare: bool },
     /// In parentheses, where a number is due.
     NumberDue,
-    /// Behind a sign.
+    /// After a sign.
     MinusRead,
-    /// Behind a number.
+    /// After a number.
     NumberRead,
 }
 
@@ -34,7 +34,7 @@ pub(crate) struct Progress {
 /// # Errors
 ///
 /// `Token` has the place of the first token with which no string goes on: some string begins with the tokens before it,
-/// and none goes on with it; or, behind the last token, they are no whole string. `Deep` never comes.
+/// and none goes on with it; or, after the last token, they are no whole string. `Deep` never comes.
 pub fn scan_string(tokens: &[Token], from: usize) -> Result<(), PlaceRefusal>
     requires { from ≤ length tokens.now }
     ensures verdict { IsScanned (string_verdict from tokens.now) result }

@@ -37,11 +37,22 @@ impl SymbolList {
         }
     }
 
+    /// Makes room for so many symbols more, and for no others where it has to grow. The symbols stay.
+    ///
+    /// # Errors
+    ///
+    /// Out of memory.
+    pub fn reserve(&mut self, more: usize) -> Result<(), AllocError>
+        ensures { self.new ≡ self.old }
+    {
+        self.symbols.reserve_exact(more)
+    }
+
     /// Adds a symbol at the end.
     ///
     /// # Errors
     ///
-    /// Want of memory. The list is then as it was.
+    /// Out of memory. The list is then as it was.
     pub fn push(&mut self, symbol: Symbol) -> Result<(), AllocError>
         ensures added { OnOk result (self.new ≡ self.old ++ symbol ∷ []) }
         ensures refused { OnErr result (self.new ≡ self.old) }

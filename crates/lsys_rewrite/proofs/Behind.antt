@@ -2,7 +2,7 @@
 use Rattle.std.proofs.Common.{◌≡◌, ℕ, suc, ◌+◌, ◌<◌, Result, Ok, Err, List, ◌∷◌, ◌++◌, drop, get_or, length, refl, ap, sym, ◌∙◌, append_assoc, add-one, drop-cons}
 use Rattle.lsys_spec.specs.Values.{◌and_then◌}
 
--- a front, and behind it what was made
+-- a front, and after it what was made
 abbrev pub behind : {A E : Type 0} → List A → Result (List A) E → Result (List A) E
 behind front r = r and_then λ more. Ok (front ++ more)
 

@@ -51,7 +51,7 @@ first_stays (Some (suc n)) (Plain (Module l m)) x = refl
 first_stays (Some (suc n)) (Plain (Push l)) x = refl
 first_stays (Some (suc n)) (Plain (Pop l)) x = refl
 
--- and those behind it
+-- and those after it
 later_off : (o : Option ℕ) (r : Raw) (x : List Raw) (p : ℕ) → off (cutting_behind o (raw_plain r)) x p ≡ off o (r ∷ x) (suc p)
 later_off None (Cut l) x p = refl
 later_off None (Plain (Module l m)) x p = refl

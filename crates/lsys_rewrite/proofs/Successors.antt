@@ -21,7 +21,7 @@ params_more front t ts bound z h =
     ap (λ (r : Result ℤ meaning.Arith). behind front (r and_then λ z. filled_params ts bound and_then λ zs. Ok (z ∷ zs))) (sym h)
     ∙ behind_twice front (z ∷ []) (filled_params ts bound)
 
--- Behind old stand the symbols of the templates before place i; with those of the others behind them they are those of all.
+-- After old stand the symbols of the templates before place i; with those of the others after them they are those of all.
 pub record Grown (old new : List Symbol) (templates : List Template) (i : ℕ) (bound : List ℤ) : Type 0 where
   pub more : List Symbol
   pub is : new ≡ old ++ more

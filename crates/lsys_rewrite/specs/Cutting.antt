@@ -27,7 +27,7 @@ symbol_stays None s = true
 symbol_stays (Some zero) S.Pop = true
 symbol_stays (Some n) s = false
 
--- behind it
+-- after it
 abbrev pub cutting_behind : Option ℕ → S.Symbol ℤ → Option ℕ
 cutting_behind None S.Cut = Some 0
 cutting_behind None s = None

@@ -14,19 +14,19 @@ use Rattle.lsys_bodies.specs.Views.{template_of, as_rule}
 use Rattle.lsys_rewrite.specs.declared.refusal.FillRefusal.{FillRefusal}
 use Rattle.lsys_rewrite.specs.declared.refusal.FillRefusal.TheVariants.{Arith, Memory}
 
--- the string, or the first fault; want of memory says nothing
+-- the string, or the first fault; lack of memory says nothing
 abbrev pub IsFilled : Result (List (S.Symbol ℤ)) meaning.Arith → Result (List Symbol) FillRefusal → Type 0
 IsFilled r (Ok symbols) = r ≡ Ok (string_of symbols)
 IsFilled r (Err (Arith e)) = r ≡ Err (arith_of e)
 IsFilled r (Err Memory) = Unit {0}
 
--- The string stands behind what was there; on a fault, or where memory is wanting, only this is there.
+-- The string stands after what was there; on a fault, or where memory is wanting, only this is there.
 abbrev pub IsAdded : Result (List (S.Symbol ℤ)) meaning.Arith → List Symbol → List Symbol → Result (Unit {0}) FillRefusal → Type 0
 IsAdded r old new (Ok done) = (more : List Symbol) × (new ≡ old ++ more) × (r ≡ Ok (string_of more))
 IsAdded r old new (Err (Arith e)) = (new ≡ old) × (r ≡ Err (arith_of e))
 IsAdded r old new (Err Memory) = new ≡ old
 
--- The same, but on a refusal a front of the string may stand behind what was there.
+-- The same, but on a refusal a front of the string may stand after what was there.
 abbrev pub IsAddedFront : Result (List (S.Symbol ℤ)) meaning.Arith → List Symbol → List Symbol → Result (Unit {0}) FillRefusal → Type 0
 IsAddedFront r old new (Ok done) = (more : List Symbol) × (new ≡ old ++ more) × (r ≡ Ok (string_of more))
 IsAddedFront r old new (Err (Arith e)) = (take (length old) new ≡ old) × (r ≡ Err (arith_of e))

@@ -42,7 +42,7 @@ pub fn stays(cutting: Option<usize>, symbol: &Symbol) -> bool
     }
 }
 
-/// Behind the next symbol, whether a branch is being cut off and how many others are open in it.
+/// After the next symbol, whether a branch is being cut off and how many others are open in it.
 pub fn cutting_behind(cutting: Option<usize>, symbol: &Symbol) -> Option<usize>
     requires { IfSome cutting (λ branches. branches < usize.MAX) }
     ensures { result ≡ cutting_behind cutting (symbol_of symbol.now) }

@@ -17,7 +17,7 @@ use std::alloc::Global;
 ///
 /// # Errors
 ///
-/// `Arith` has the first fault of a parameter, from left to right, and `Memory` is want of memory.
+/// `Arith` has the first fault of a parameter, from left to right, and `Memory` is lack of memory.
 pub fn fill(alloc: Global, rule: &Rule, bound: &[i64]) -> Result<SymbolList, FillRefusal>
     ensures { IsFilled (filled (body_of (rule_of rule.now)).successor bound.now) result }
 {
@@ -26,7 +26,8 @@ pub fn fill(alloc: Global, rule: &Rule, bound: &[i64]) -> Result<SymbolList, Fil
     Ok(symbols)
 }
 
-/// Adds the successor of a body, where its formals have the values `bound`, by place, at the end of a list.
+/// Adds the successor of a body, where its formals have the values `bound`, by place, at the end of a list. The list gets no
+/// more room than that takes.
 ///
 /// # Errors
 ///
@@ -39,7 +40,9 @@ pub fn fill_into(
     ensures { IsAdded (successor_filled body.now bound.now) symbols.old symbols.new result }
 {
     let len = symbols.len();
-    let added = add_front(symbols, body.successor(), bound);
+    let templates = body.successor();
+    symbols.reserve(templates.len())?;
+    let added = add_front(symbols, templates, bound);
     if added.is_err() {
         symbols.truncate(len);
     }

@@ -71,7 +71,7 @@ pub enum FillRefusal {
     /// The first fault of a parameter.
     #[error("{0}")]
     Arith(Arith),
-    /// Want of memory.
+    /// Out of memory.
     #[error("out of memory")]
     Memory,
 }
@@ -114,7 +114,7 @@ pub enum DeriveRefusal {
     Limit {
         level: u32,
     },
-    /// Want of memory.
+    /// Out of memory.
     #[error("out of memory")]
     Memory,
 }

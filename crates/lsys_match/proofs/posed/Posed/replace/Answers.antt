@@ -13,8 +13,8 @@ pub returns-in_default-get : goal.returns-in_default-get
 returns-in_default-get c =
     let n : slice_get (rules_of c.args.self.now.group) c.in-Some.place ≡ None = search rules in
     let e : c.args.chosen ≡ Some c.in-Some.place = search rules in
-    subst (λ o. IsSuccessor (rules_of c.args.self.now.group) (module_named c.args.self.now.name c.args.self.now.params.now) o c.args.bound.now (Ok c.truncate.new.self)) (sym e)
-    (filled_nowhere (rules_of c.args.self.now.group) c.in-Some.place c.args.bound.now n ∙ ap (λ ys. Ok (string_of ys)) (sym c.truncate.ensures))
+    subst (λ o. IsSuccessor (rules_of c.args.self.now.group) (module_named c.args.self.now.name c.args.self.now.params.now) o c.args.bound.now (Ok c.args.symbols.now)) (sym e)
+    (filled_nowhere (rules_of c.args.self.now.group) c.in-Some.place c.args.bound.now n ∙ ap (λ ys. Ok (string_of ys)) (sym c.requires.empty))
 
 pub returns-in_err-fill_into : goal.returns-in_err-fill_into
 returns-in_err-fill_into c =
@@ -23,7 +23,7 @@ returns-in_err-fill_into c =
     let e : c.args.chosen ≡ Some c.in-Some.place = search rules in
     let f : IsAdded (filled (meant c.in-Some-get.body.now).successor c.args.bound.now) [] c.fill_into.new.symbols (Err c.in_err-fill_into.field-0.0) =
     subst (λ r. IsAdded (filled (meant c.in-Some-get.body.now).successor c.args.bound.now) [] c.fill_into.new.symbols r) c.in_err-fill_into.was
-    (subst (λ old. IsAdded (filled (meant c.in-Some-get.body.now).successor c.args.bound.now) old c.fill_into.new.symbols c.fill_into.result) c.truncate.ensures c.fill_into.ensures) in
+    (subst (λ old. IsAdded (filled (meant c.in-Some-get.body.now).successor c.args.bound.now) old c.fill_into.new.symbols c.fill_into.result) c.requires.empty c.fill_into.ensures) in
     by_err c.from_residual-in_err-fill_into.result (λ r. refusal_by r ≡ fill_refusal_by c.in_err-fill_into.field-0.0) (λ r. IsSuccessor bs m c.args.chosen c.args.bound.now (replaced_by c.fill_into.new.symbols r)) c.from_residual-in_err-fill_into.ensures
     (λ r i. subst (λ o. IsSuccessor bs m o c.args.bound.now (Err r)) (sym e) (successor_fails bs m c.in-Some.place c.args.bound.now (meant c.in-Some-get.body.now) c.in-Some-get.ensures.body c.fill_into.new.symbols c.in_err-fill_into.field-0.0 r f i))
 
@@ -34,5 +34,5 @@ returns c =
     let e : c.args.chosen ≡ Some c.in-Some.place = search rules in
     let f : IsAdded (filled (meant c.in-Some-get.body.now).successor c.args.bound.now) [] c.fill_into.new.symbols (Ok tt) =
     subst (λ r. IsAdded (filled (meant c.in-Some-get.body.now).successor c.args.bound.now) [] c.fill_into.new.symbols r) c.in_ok-fill_into.was
-    (subst (λ old. IsAdded (filled (meant c.in-Some-get.body.now).successor c.args.bound.now) old c.fill_into.new.symbols c.fill_into.result) c.truncate.ensures c.fill_into.ensures) in
+    (subst (λ old. IsAdded (filled (meant c.in-Some-get.body.now).successor c.args.bound.now) old c.fill_into.new.symbols c.fill_into.result) c.requires.empty c.fill_into.ensures) in
     subst (λ o. IsSuccessor bs m o c.args.bound.now (Ok c.fill_into.new.symbols)) (sym e) (successor_filled bs m c.in-Some.place c.args.bound.now (meant c.in-Some-get.body.now) c.in-Some-get.ensures.body c.fill_into.new.symbols f)

@@ -6,7 +6,6 @@ use Rattle.lsys_match.proofs.posed.Posed.reply.Goals as goal
 pub returns-in_err-symbols : goal.returns-in_err-symbols
 returns-in_err-symbols c =
     let e : c.from_residual.result ≡ Err c.in_err-symbols.field-0.0 = err_is _ _ c.from_residual.ensures in
-    let s : IsSuccessorKept c.args.self.now c.args.chosen c.args.scratch.now.bound.items (Err c.in_err-symbols.field-0.0) =
-    subst (IsSuccessorKept c.args.self.now c.args.chosen c.args.scratch.now.bound.items) c.in_err-symbols.was
-    (subst (λ vs. IsSuccessorKept c.args.self.now c.args.chosen vs c.kept_symbols.result) c.deref.ensures.value c.kept_symbols.ensures) in
-    subst (IsReplyOf c.args.self.now c.args.trace.read c.args.chosen c.args.scratch.now.bound.items) (sym e) s
+    let s : IsSuccessorKept c.args.self.now c.args.chosen c.args.bound.now (Err c.in_err-symbols.field-0.0) =
+    subst (IsSuccessorKept c.args.self.now c.args.chosen c.args.bound.now) c.in_err-symbols.was c.kept_symbols.ensures in
+    subst (IsReplyOf c.args.self.now c.args.trace.read c.args.chosen c.args.bound.now) (sym e) s
