@@ -11,7 +11,7 @@ use Rattle.lsys_level.specs.Spots.{Seen, Push, Pop, Module, Spotted, spots_at, w
 use Rattle.lsys_hom.specs.Coming.{Coming, coming_from, modules_behind, symbol_image, coming_with}
 use Rattle.lsys_hom.specs.Ways.{at, bare_level, rest_from}
 
--- what stands at a place, and what stands behind it
+-- what stands at a place, and what stands after it
 pub record Stands (x : List Spotted) (p : ℕ) (v : Seen) : Type 0 where
   pub spotted : Spotted
   pub is : drop p x ≡ spotted ∷ drop (suc p) x

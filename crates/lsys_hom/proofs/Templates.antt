@@ -3,9 +3,9 @@ use Rattle.std.proofs.Common.{◌≡◌, suc, ℤ, Result, Ok, Err, List, [], �
 use Rattle.lsys_syntax.specs.Strings as S
 use Rattle.lsys_spec.specs.Values.{Arith, Tree, ◌and_then◌}
 use Rattle.lsys_spec.specs.Meaning.{filled, filled_params}
-use Rattle.lsys_hom.specs.Parts.{AreFilled, or_none}
+use Rattle.lsys_hom.specs.Parts.{AreFilled, fault_alone, or_none}
 
--- one symbol, and the others behind it
+-- one symbol, and the others after it
 abbrev pub in_front : {E : Type 0} → Result (List (S.Symbol ℤ)) E → Result (List (S.Symbol ℤ)) E → Result (List (S.Symbol ℤ)) E
 in_front first more = first and_then λ xs. more and_then λ ys. Ok (xs ++ ys)
 
@@ -20,6 +20,32 @@ filled_front (S.Module n es) ts bound = module_front n (filled_params es bound) 
 filled_front S.Push ts bound = refl
 filled_front S.Pop ts bound = refl
 filled_front S.Cut ts bound = refl
+
+-- the faults of what stands in front come first
+front_whole : (first more : Result (List (S.Symbol ℤ)) Arith) → Ok tt ≡ fault_alone first → fault_alone (in_front first more) ≡ fault_alone more
+front_whole (Ok xs) (Ok ys) h = refl
+front_whole (Ok xs) (Err e) h = refl
+front_whole (Err k) more h = absurd (cc)
+
+front_fault : (first more : Result (List (S.Symbol ℤ)) Arith) (e : Arith) → Err e ≡ fault_alone first → Err e ≡ fault_alone (in_front first more)
+front_fault (Ok xs) more e h = absurd (cc)
+front_fault (Err k) more e h = h
+
+pub fault_behind : (t : S.Symbol Tree) (ts : List (S.Symbol Tree)) (bound : List ℤ) → Ok tt ≡ fault_alone (filled (t ∷ []) bound) → fault_alone (filled (t ∷ ts) bound) ≡ fault_alone (filled ts bound)
+fault_behind t ts bound h = ap fault_alone (filled_front t ts bound) ∙ front_whole (filled (t ∷ []) bound) (filled ts bound) h
+
+pub fault_first : (t : S.Symbol Tree) (ts : List (S.Symbol Tree)) (bound : List ℤ) (e : Arith) → Err e ≡ fault_alone (filled (t ∷ []) bound) → Err e ≡ fault_alone (filled (t ∷ ts) bound)
+fault_first t ts bound e h = front_fault (filled (t ∷ []) bound) (filled ts bound) e h ∙ ap fault_alone (sym (filled_front t ts bound))
+
+-- a parameter, and those after it
+pub params_behind : (z : ℤ) (first : Result ℤ Arith) (more : Result (List ℤ) Arith) → Ok z ≡ first → fault_alone (first and_then λ y. more and_then λ ys. Ok (y ∷ ys)) ≡ fault_alone more
+params_behind z (Ok y) (Ok ys) h = refl
+params_behind z (Ok y) (Err e) h = refl
+params_behind z (Err k) more h = absurd (cc)
+
+pub params_first : (e : Arith) (first : Result ℤ Arith) (more : Result (List ℤ) Arith) → Err e ≡ first → Err e ≡ fault_alone (first and_then λ y. more and_then λ ys. Ok (y ∷ ys))
+params_first e (Ok y) more h = absurd (cc)
+params_first e (Err k) more h = cc
 
 -- one template is one symbol
 pub data IsOne (r : Result (List (S.Symbol ℤ)) Arith) : Type 0 where
@@ -36,7 +62,7 @@ filled_one S.Push bound = one S.Push refl
 filled_one S.Pop bound = one S.Pop refl
 filled_one S.Cut bound = one S.Cut refl
 
--- the first template and those behind it, none with a fault
+-- the first template and those after it, none with a fault
 pub record HasFirst (t : S.Symbol Tree) (ts : List (S.Symbol Tree)) (bound : List ℤ) : Type 0 where
   pub symbol : S.Symbol ℤ
   pub first : filled (t ∷ []) bound ≡ Ok (symbol ∷ [])

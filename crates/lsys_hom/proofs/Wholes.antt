@@ -11,7 +11,7 @@ use Rattle.lsys_hom.specs.Coming.{Coming, coming_from, modules_behind, symbol_im
 abbrev Image : Type 0
 Image = Result (List (S.Symbol ℤ)) ImageRefusal
 
--- an image, and behind it that of the rest, by the number of its symbols
+-- an image, and after it that of the rest, by the number of its symbols
 abbrev pub followed : Image → (ℕ → Image) → Image
 followed r more = r and_then λ ys. more (length ys) and_then λ zs. Ok (ys ++ zs)
 

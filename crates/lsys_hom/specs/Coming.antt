@@ -1,4 +1,4 @@
--- What is still to come of an image: its symbols one by one, and the refusal behind them, if one comes.
+-- What is still to come of an image: its symbols one by one, and the refusal after them, if one comes.
 use Rattle.std.specs.Prelude.{◌≡◌, ℕ, ℤ, ◌+◌, ◌<◌, Option, Some, None, List, [], ◌∷◌, ◌++◌, Result, Ok, Err, length, take}
 use Rattle.lsys_syntax.specs.Strings as S
 use Rattle.lsys_spec.specs.Systems.{System, Homomorphism}
@@ -25,7 +25,7 @@ abbrev pub modules_behind : ℕ → LevelSymbol → ℕ
 modules_behind n (Module l m) = n + 1
 modules_behind n s = n
 
--- these symbols and what comes behind so many, or a refusal
+-- these symbols and what comes after so many, or a refusal
 abbrev pub coming_with : Result (List (S.Symbol ℤ)) ImageRefusal → (ℕ → Coming) → Coming
 coming_with (Ok ys) behind = let c = behind (length ys) in record { symbols = ys ++ c.symbols; refusal = c.refusal }
 coming_with (Err r) behind = record { symbols = []; refusal = Some r }

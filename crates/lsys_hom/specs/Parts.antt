@@ -12,7 +12,7 @@ use Rattle.lsys_spec.specs.Images as meaning
 use Rattle.lsys_spec.specs.Images.{for_module, image_of}
 use Rattle.lsys_expr.specs.Answers.{arith_of}
 use Rattle.lsys_expr.specs.declared.arith.Arith as code
-use Rattle.lsys_module.specs.Views.{module_name, symbol_of}
+use Rattle.lsys_module.specs.Views.{module_name, string_of, symbol_of}
 use Rattle.lsys_module.specs.declared.symbol.Symbol.{Symbol}
 use Rattle.lsys_syntax.specs.Smalls.{HaveFewParams}
 use Rattle.lsys_bodies.specs.Views.{homomorphism_of, template_of, template_symbol, as_rule}
@@ -20,10 +20,12 @@ use Rattle.lsys_bodies.specs.declared.body.Body.{Body}
 use Rattle.lsys_bodies.specs.declared.rule.HomRule.{HomRule}
 use Rattle.lsys_level.specs.Spots.{Seen, with_lineage}
 use Rattle.lsys_hom.specs.Coming.{symbol_image}
+use Rattle.lsys_hom.specs.Looks.{in_short, looked_at}
+use Rattle.lsys_hom.specs.declared.look.Glance.{Glance}
 use Rattle.lsys_hom.specs.Refusals.{refusal_of}
 use Rattle.lsys_hom.specs.declared.refusal.ImageRefusal.{ImageRefusal}
 use Rattle.lsys_hom.specs.declared.part.Part.{Part}
-use Rattle.lsys_hom.specs.declared.part.Part.TheVariants.{Nothing, Single, Successor}
+use Rattle.lsys_hom.specs.declared.part.Part.TheVariants.{Nothing, Single, Successor, Constant}
 
 -- 1. the rule of a module
 
@@ -59,6 +61,7 @@ abbrev pub symbols_of : Part → List (S.Symbol ℤ)
 symbols_of Nothing = []
 symbols_of (Single s) = symbol_of s ∷ []
 symbols_of (Successor templates params) = or_none (filled (map template_of templates.now) params.now)
+symbols_of (Constant symbols) = string_of symbols.now
 
 -- no template has a fault
 pub record AreFilled (templates : List (S.Symbol V.Tree)) (params : List ℤ) : Type 0 where
@@ -68,6 +71,7 @@ abbrev pub IsSoundPart : Part → Type 0
 IsSoundPart Nothing = Unit {0}
 IsSoundPart (Single s) = Unit {0}
 IsSoundPart (Successor templates params) = AreFilled (map template_of templates.now) params.now × HaveFewParams (map template_symbol templates.now)
+IsSoundPart (Constant symbols) = Unit {0}
 
 -- the image of a module, kept
 abbrev pub IsImage : Result (List (S.Symbol ℤ)) Arith → Result Part code.Arith → Type 0
@@ -83,6 +87,15 @@ IsSymbolImage r (Err e) = r ≡ Err (refusal_of e)
 abbrev pub IsFirstTaken : List (S.Symbol ℤ) → List (S.Symbol ℤ) → Option Symbol → Type 0
 IsFirstTaken old new (Some s) = old ≡ symbol_of s ∷ new
 IsFirstTaken old new None = (old ≡ []) × (new ≡ [])
+
+-- the same, and the symbol is looked at
+abbrev pub IsFirstLookedAt : List (S.Symbol ℤ) → List (S.Symbol ℤ) → Option Glance → Type 0
+IsFirstLookedAt old new (Some look) = (x : S.Symbol ℤ) × (looked_at look ≡ in_short x) × (old ≡ x ∷ new)
+IsFirstLookedAt old new None = (old ≡ []) × (new ≡ [])
+
+-- it is the only symbol, and is looked at
+abbrev pub IsLookedAtAlone : List (S.Symbol ℤ) → Glance → Type 0
+IsLookedAtAlone xs look = IsFirstLookedAt xs [] (Some look)
 
 -- the image of what is seen, kept, where n modules of the level and k symbols of the image stand
 -- before

@@ -5,7 +5,7 @@ ghost use Rattle.lsys_hom.specs.Calls.{IsNext};
 ghost use Rattle.lsys_hom.specs.Looks.{IsKeptLook, IsNextLook};
 ghost use Rattle.lsys_hom.specs.Ways.{ComesFrom};
 
-use crate::look::{Glance, look_at};
+use crate::look::Glance;
 use crate::part::Part;
 use crate::refusal::ImageRefusal;
 use crate::walk::Walk;
@@ -100,10 +100,16 @@ impl<'a, W: LevelView> Image<'a, W> {
     fn look_at_next(&mut self) -> Result<Option<Glance>, ImageRefusal>
         ensures { IsNextLook self.old self.new result }
     {
-        match self.next() {
-            Ok(Some(symbol)) => Ok(Some(look_at(&symbol))),
-            Ok(None) => Ok(None),
+        if let Some(seen) = self.part.look() {
+            return Ok(Some(seen));
+        }
+        match self.walk.next_part() {
             Err(why) => Err(why),
+            Ok(None) => Ok(None),
+            Ok(Some(part)) => {
+                self.part = part;
+                Ok(self.part.look())
+            }
         }
     }
 }

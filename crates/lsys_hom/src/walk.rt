@@ -151,7 +151,7 @@ fn modules_behind(modules: u32, sight: &Sight<'_>) -> u32
 ///
 /// # Errors
 ///
-/// The module's fault, or the limit, which comes behind it.
+/// The module's fault, or the limit, which comes after it.
 pub fn part_of<'a>(
     rules: &'a [HomRule],
     sight: Sight<'a>,

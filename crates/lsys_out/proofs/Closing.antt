@@ -77,7 +77,7 @@ module_balanced : (hs : List Homomorphism) (n k : ℕ) (m : ModuleValue) (ys : L
 module_balanced hs n k m ys b (Ok zs) is h = subst (λ ys. S.balanced 0 ys ≡ true) (within_same k zs ys h) (image_balanced hs m zs b is)
 module_balanced hs n k m ys b (Err e) is h = cc
 
--- 2. one symbol's image behind another
+-- 2. one symbol's image after another
 
 closes_along : (k n : ℕ) (ys zs : List (S.Symbol ℤ)) → S.balanced k ys ≡ true → Closes n zs → Closes (k + n) (ys ++ zs)
 closes_along k n [] zs b c = let e : k ≡ 0 = eqb-true k 0 b in let f : n ≡ k + n = omega (arith, e) in subst (λ m. Closes m zs) f c

@@ -46,7 +46,7 @@ few_begin s levels i is = subst (λ (c : Coming). 0 + length c.symbols ≤ most_
 one_deeper : (m o k x n : ℕ) → max m (max o x) ≡ n → o ≤ m → k ≤ x → max (max m k) x ≡ n
 one_deeper m o k x n e h b = omega arith
 
--- the nesting behind a symbol, where so many branches are open before it, and so many were at most so far
+-- the nesting after a symbol, where so many branches are open before it, and so many were at most so far
 pub nested_behind : (x : S.Symbol ℤ) (most here n : ℕ) (old new : List (S.Symbol ℤ)) → old ≡ x ∷ new → max most (nesting_from here old) ≡ n → here ≤ most
     → max (max most (saved_after x here)) (nesting_from (saved_after x here) new) ≡ n
 nested_behind x most here n old new is e h =

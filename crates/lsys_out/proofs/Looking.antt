@@ -50,7 +50,7 @@ short_saved S.Push n = refl
 short_saved S.Pop n = refl
 short_saved S.Cut n = refl
 
--- at most one more is saved behind a symbol
+-- at most one more is saved after a symbol
 pub saved_few : (x : S.Symbol ℤ) (n : ℕ) → saved_after x n ≤ n + 1
 saved_few (S.Module m ps) n = omega arith
 saved_few S.Push n = omega arith
@@ -87,7 +87,7 @@ module _ (x y : S.Symbol ℤ) (is : y ≡ in_short x) where
         room = subst (λ k. nesting_from k xs ≤ v.room) (sym now) deep;
       }
 
-  -- what is still to come, behind it
+  -- what is still to come, after it
   pub drawing_taken : (l : Lattice) (old new : Way) (t : Turtle) → old.image ≡ record { symbols = x ∷ new.image.symbols; refusal = new.image.refusal } → new.modules ≡ modules_to old.modules x
       → drawing l old t ≡ drawn_on new.image.refusal new.modules (turtle_step l y t) (λ u. drawing l new u)
   drawing_taken l old new t passed counted =

@@ -2,7 +2,6 @@
 use Rattle.std.proofs.Common.{◌≡◌, ◌+◌, Ok, length, fold, ap, sym, ◌∙◌, arith}
 use Rattle.lsys_spec.specs.Lattices.{Lattice, projected}
 use Rattle.lsys_spec.specs.Pictures.{origin}
-use Rattle.lsys_spec.specs.Pictures as P
 use Rattle.lsys_out.specs.Boxes.{IsSurveyed, box_of, extended_by, extent_at, extent_of}
 use Rattle.lsys_out.specs.Drawings.{Drawing, empty_drawing}
 use Rattle.lsys_out.specs.declared.survey.Survey.{Survey}

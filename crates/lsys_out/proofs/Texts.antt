@@ -2,9 +2,9 @@
 use Rattle.std.proofs.Common.{◌≡◌, ℕ, List, [], ◌∷◌, ◌++◌, length, refl, ap, sym, ◌∙◌, append_assoc, codes, decimal}
 use Rattle.std.specs.Prelude.{flat_map}
 use Rattle.std.specs.Fmt.{signed_decimal}
-use Rattle.lsys_spec.specs.Lattices.{Lattice}
+use Rattle.lsys_spec.specs.Lattices.{Lattice, projected}
 use Rattle.lsys_spec.specs.Pictures.{Segment, Box, box}
-use Rattle.lsys_spec.specs.PictureTexts.{segment_line, segments_text, svg_head, svg_line, svg_text}
+use Rattle.lsys_spec.specs.PictureTexts.{attribute, segment_line, segments_text, svg_head, svg_line, svg_text}
 use Rattle.lsys_out.specs.Drawings.{Drawing, with_first}
 use Rattle.lsys_out.specs.Lines.{segments_line, drawn_line, head_line}
 
@@ -24,8 +24,25 @@ svg-head b =
     ap (λ t. codes "<svg xmlns=\"http://www.w3.org/2000/svg\" viewBox=\"" ++ t)
     (four (signed_decimal b.x) (signed_decimal b.y) (signed_decimal b.width) (signed_decimal b.height) (codes "\">\n"))
 
+-- attributes one after another
+five : (a b c d w : List ℕ) → codes "<line" ++ (attribute (codes "x1") a ++ (attribute (codes "y1") b ++ (attribute (codes "x2") c ++ (attribute (codes "y2") d
+    ++ (attribute (codes "stroke") (codes "black") ++ (attribute (codes "stroke-width") w ++ codes "/>\n"))))))
+    ≡ codes "<line x1=\"" ++ (a ++ (codes "\" y1=\"" ++ (b ++ (codes "\" x2=\"" ++ (c ++ (codes "\" y2=\"" ++ (d ++ (codes "\" stroke=\"black\" stroke-width=\"" ++ (w ++ codes "\"/>\n")))))))))
+five a b c d w =
+    let from_stroke = attribute (codes "stroke") (codes "black") ++ (attribute (codes "stroke-width") w ++ codes "/>\n") in
+    let from_y2 = attribute (codes "y2") d ++ from_stroke in
+    let from_x2 = attribute (codes "x2") c ++ from_y2 in
+    let from_y1 = attribute (codes "y1") b ++ from_x2 in
+    ap (λ t. codes "<line x1=\"" ++ t) (append_assoc a (34 ∷ []) from_y1)
+    ∙ ap (λ t. codes "<line x1=\"" ++ (a ++ (codes "\" y1=\"" ++ t))) (append_assoc b (34 ∷ []) from_x2)
+    ∙ ap (λ t. codes "<line x1=\"" ++ (a ++ (codes "\" y1=\"" ++ (b ++ (codes "\" x2=\"" ++ t))))) (append_assoc c (34 ∷ []) from_y2)
+    ∙ ap (λ t. codes "<line x1=\"" ++ (a ++ (codes "\" y1=\"" ++ (b ++ (codes "\" x2=\"" ++ (c ++ (codes "\" y2=\"" ++ t))))))) (append_assoc d (34 ∷ []) from_stroke)
+    ∙ ap (λ t. codes "<line x1=\"" ++ (a ++ (codes "\" y1=\"" ++ (b ++ (codes "\" x2=\"" ++ (c ++ (codes "\" y2=\"" ++ (d ++ (codes "\" stroke=\"black\" stroke-width=\"" ++ t)))))))))
+    (append_assoc w (34 ∷ []) (codes "/>\n"))
+
 svg-line : (l : Lattice) (g : Segment) → svg_line l g ≡ drawn_line l g
-svg-line l g = refl
+svg-line l g =
+    let p = projected l g.from in let q = projected l g.to in five (signed_decimal p.0) (signed_decimal p.1) (signed_decimal q.0) (signed_decimal q.1) (decimal g.width)
 
 svg-lines : (l : Lattice) (gs : List Segment) → flat_map (svg_line l) gs ≡ flat_map (drawn_line l) gs
 svg-lines l [] = refl

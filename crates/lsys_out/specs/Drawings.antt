@@ -1,4 +1,4 @@
--- What is still to come of a picture: its segments one by one, and the refusal behind them, if one comes.
+-- What is still to come of a picture: its segments one by one, and the refusal after them, if one comes.
 use Rattle.std.specs.Prelude.{◌≡◌, ℕ, ℤ, Option, Some, None, Result, Ok, Err, List, [], ◌∷◌, option_map}
 use Rattle.lsys_syntax.specs.Strings as S
 use Rattle.lsys_spec.specs.Systems.{System}
@@ -44,12 +44,12 @@ abbrev pub far_or : Option I.ImageRefusal → ℕ → PictureRefusal
 far_or None n = Far n
 far_or (Some r) n = NoImage r
 
--- a step at module n, and what follows from the turtle behind it
+-- a step at module n, and what follows from the turtle after it
 abbrev pub drawn_on : Option I.ImageRefusal → ℕ → Option Stepped → (Turtle → Drawing) → Drawing
 drawn_on r n None rest = stopped (far_or r n)
 drawn_on r n (Some s) rest = with_drawn s.segment (rest s.turtle)
 
--- the segments of a turtle's way over symbols, before which n modules stand, and behind which the image may be refused
+-- the segments of a turtle's way over symbols, before which n modules stand, and after which the image may be refused
 abbrev pub drawing_from : Lattice → ℕ → Turtle → List (S.Symbol ℤ) → Option I.ImageRefusal → Drawing
 drawing_from l n t [] r = record { segments = []; refusal = option_map NoImage r }
 drawing_from l n t (x ∷ xs) r = drawn_on r (modules_to n x) (turtle_step l x t) (λ u. drawing_from l (modules_to n x) u xs r)

@@ -4,6 +4,11 @@ use Rattle.std.specs.Fmt.{signed_decimal}
 use Rattle.lsys_spec.specs.Lattices.{Lattice, projected}
 use Rattle.lsys_spec.specs.Pictures.{Box, Segment}
 
+-- the end of a line, and for how many bytes more before it there is room
+pub record RoomyText : Type 0 where
+  pub text : List ℕ
+  pub room : ℕ
+
 -- the first line of a list of segments
 abbrev pub segments_line : ℕ → List ℕ
 segments_line n = codes "segments " ++ (decimal n ++ 10 ∷ [])
@@ -18,19 +23,12 @@ head_line b =
 abbrev pub side_text : ℤ → ℤ → List ℕ
 side_text least greatest = signed_decimal (greatest -ℤ least +ℤ pos 20)
 
--- a coordinate and the quotation mark behind it, behind what stands before
-abbrev pub coordinate_behind : List ℕ → ℤ → List ℕ
-coordinate_behind before z = before ++ (signed_decimal z ++ 34 ∷ [])
-
--- the colour and the width of a line
-abbrev pub stroke_text : ℕ → List ℕ
-stroke_text w = codes " stroke=\"black\" stroke-width=\"" ++ (decimal w ++ 34 ∷ [])
-
 -- the line between two points
 abbrev pub line_between : ℤ × ℤ → ℤ × ℤ → ℕ → List ℕ
 line_between p q w =
-    coordinate_behind (codes "<line x1=\"") p.0 ++ (coordinate_behind (codes " y1=\"") p.1 ++ (coordinate_behind (codes " x2=\"") q.0
-    ++ (coordinate_behind (codes " y2=\"") q.1 ++ (stroke_text w ++ codes "/>\n"))))
+    codes "<line x1=\"" ++ (signed_decimal p.0 ++ (codes "\" y1=\"" ++ (signed_decimal p.1
+    ++ (codes "\" x2=\"" ++ (signed_decimal q.0 ++ (codes "\" y2=\"" ++ (signed_decimal q.1
+    ++ (codes "\" stroke=\"black\" stroke-width=\"" ++ (decimal w ++ codes "\"/>\n")))))))))
 
 -- the line of a segment
 abbrev pub drawn_line : Lattice → Segment → List ℕ

@@ -28,7 +28,7 @@ pub record RefusesPicture {K : Type 0} (sink_old sink_new : K) (held_old held_ne
   pub sink_stays : sink_new ≡ sink_old
   pub held_stays : held_new ≡ held_old
 
--- The picture's text was put behind the bytes that are held; or the picture is refused, and nothing was put; or the sink
+-- The picture's text was put after the bytes that are held; or the picture is refused, and nothing was put; or the sink
 -- failed, and a front of the text was put.
 abbrev pub Shows : {K : Type 0} → (K → Option (List ℕ)) → (K → ℕ) → K → K → List ℕ → List ℕ → Result (List Segment) PictureRefusal → (List Segment → List ℕ) → Result (Unit {0}) Refusal
     → Type 0

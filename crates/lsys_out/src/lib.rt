@@ -11,6 +11,7 @@ mod refusal;
 mod segments;
 mod survey;
 mod svg;
+mod tail;
 mod way;
 
 pub use nesting::image_nesting;

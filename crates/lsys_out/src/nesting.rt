@@ -29,7 +29,7 @@ pub fn image_nesting<W: LevelView>(view: &W, system: &System) -> Result<usize, I
     Ok(most)
 }
 
-/// How many branches are open behind a symbol, where so many are before it.
+/// How many branches are open after a symbol, where so many are before it.
 fn open_behind(before: usize, seen: Glance) -> usize
     requires { before < most_image_symbols }
     ensures { result ≡ saved_after (looked_at seen) before }

@@ -1,5 +1,5 @@
 //! A picture as a list of its segments.
-ghost use Rattle.std.specs.Prelude.{◌≡◌, ◌≤◌, None, length};
+ghost use Rattle.std.specs.Prelude.{◌≡◌, ◌≤◌, ◌+◌, ◌++◌, None, length};
 ghost use Rattle.lsys_spec.specs.PictureTexts.{place_text, segment_line};
 ghost use Rattle.lsys_io.specs.Putting.{Puts};
 ghost use Rattle.lsys_lattice.specs.Views.{vector_of};
@@ -12,6 +12,7 @@ ghost use Rattle.lsys_out.specs.LastPictures.{PutsList, WritesList};
 use crate::numbers::{put_signed, put_unsigned};
 use crate::refusal::PictureRefusal;
 use crate::survey::survey_picture;
+use crate::tail::Tail;
 use crate::way::Way;
 use lsys_io::{Buffered, Failed, Sink};
 use lsys_lattice::{Lattice, Place};
@@ -64,10 +65,11 @@ fn put_segments<T: Lattice, W: LevelView, K: Sink>(
     ensures room { turtle.new.room ≡ turtle.old.room }
 {
     put_count(out, sink, count)?;
+    let mut tail = Tail::new();
     let mut way = Way::new(view, system, turtle);
     'segments: loop {
         match way.next(turtle) {
-            Ok(Some(segment)) => put_segment(out, sink, &segment)?,
+            Ok(Some(segment)) => put_segment(out, sink, &mut tail, &segment)?,
             Ok(None) => return Ok(()),
             Err(_) => unreachable!(),
         }
@@ -84,15 +86,42 @@ fn put_count<K: Sink>(out: &mut Buffered, sink: &mut K, count: u32) -> Result<()
 }
 
 // Puts the line of a segment.
-fn put_segment<K: Sink>(out: &mut Buffered, sink: &mut K, segment: &Segment) -> Result<(), Failed>
+fn put_segment<K: Sink>(
+    out: &mut Buffered,
+    sink: &mut K,
+    tail: &mut Tail,
+    segment: &Segment,
+) -> Result<(), Failed>
     ensures { Puts K.Sink sink out (segment_line (segment_of segment.now)) result }
 {
-    put_place(out, sink, &segment.from)?;
-    out.put(sink, b" ")?;
-    put_place(out, sink, &segment.to)?;
-    out.put(sink, b" ")?;
-    put_unsigned(out, sink, segment.width)?;
-    out.put(sink, b"\n")
+    write_segment(tail, segment);
+    out.put(sink, tail.text())
+}
+
+// Writes the line of a segment.
+fn write_segment(tail: &mut Tail, segment: &Segment)
+    ensures { tail.new.text ≡ segment_line (segment_of segment.now) }
+{
+    tail.clear();
+    tail.byte(b'\n');
+    tail.number(i64::from(segment.width));
+    tail.byte(b' ');
+    write_place(tail, &segment.to);
+    tail.byte(b' ');
+    write_place(tail, &segment.from);
+}
+
+// Writes a place by its three coordinates.
+fn write_place(tail: &mut Tail, place: &Place)
+    requires { 62 ≤ tail.old.room }
+    ensures text { tail.new.text ≡ place_text (vector_of place.now) ++ tail.old.text }
+    ensures room { tail.old.room ≤ tail.new.room + 62 }
+{
+    tail.number(place.z);
+    tail.byte(b' ');
+    tail.number(place.y);
+    tail.byte(b' ');
+    tail.number(place.x);
 }
 
 /// Puts a place by its three coordinates.

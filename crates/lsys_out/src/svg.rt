@@ -4,14 +4,15 @@ ghost use Rattle.lsys_io.specs.Putting.{Puts};
 ghost use Rattle.lsys_turtle.specs.Ways.{IsReached, segment_of};
 ghost use Rattle.lsys_out.specs.Boxes.{box_of};
 ghost use Rattle.lsys_out.specs.Drawings.{last_drawing};
-ghost use Rattle.lsys_out.specs.Lines.{coordinate_behind, drawn_line, head_line, line_between, stroke_text};
+ghost use Rattle.lsys_out.specs.Lines.{drawn_line, head_line, line_between};
 ghost use Rattle.lsys_out.specs.Nesting.{HasLast, image_nesting};
 ghost use Rattle.lsys_out.specs.LastPictures.{DrawsSvg, WritesSvg, last_box};
 
 use crate::extent::Extent;
-use crate::numbers::{put_corner, put_side, put_signed, put_unsigned};
+use crate::numbers::{put_corner, put_side};
 use crate::refusal::PictureRefusal;
 use crate::survey::survey_picture;
+use crate::tail::Tail;
 use crate::way::Way;
 use lsys_io::{Buffered, Failed, Sink};
 use lsys_lattice::Lattice;
@@ -64,10 +65,11 @@ fn put_svg<T: Lattice, W: LevelView, K: Sink>(
     ensures room { turtle.new.room ≡ turtle.old.room }
 {
     put_head(out, sink, &extent)?;
+    let mut tail = Tail::new();
     let mut way = Way::new(view, system, turtle);
     'segments: loop {
         match way.next(turtle) {
-            Ok(Some(segment)) => put_line::<T, K>(out, sink, &segment)?,
+            Ok(Some(segment)) => put_line::<T, K>(out, sink, &mut tail, &segment)?,
             Ok(None) => return out.put(sink, b"</svg>\n"),
             Err(_) => unreachable!(),
         }
@@ -96,6 +98,7 @@ fn put_head<K: Sink>(out: &mut Buffered, sink: &mut K, extent: &Extent) -> Resul
 fn put_line<T: Lattice, K: Sink>(
     out: &mut Buffered,
     sink: &mut K,
+    tail: &mut Tail,
     segment: &Segment,
 ) -> Result<(), Failed>
     requires { IsReached segment.now }
@@ -103,46 +106,24 @@ fn put_line<T: Lattice, K: Sink>(
 {
     let from = T::project(segment.from);
     let to = T::project(segment.to);
-    put_ends(out, sink, &from, &to, segment.width)
+    write_line(tail, &from, &to, segment.width);
+    out.put(sink, tail.text())
 }
 
-// Puts the line between two points.
-fn put_ends<K: Sink>(
-    out: &mut Buffered,
-    sink: &mut K,
-    from: &(i64, i64),
-    to: &(i64, i64),
-    width: u32,
-) -> Result<(), Failed>
-    ensures { Puts K.Sink sink out (line_between from.now to.now width) result }
+// Writes the line between two points.
+fn write_line(tail: &mut Tail, from: &(i64, i64), to: &(i64, i64), width: u32)
+    ensures { tail.new.text ≡ line_between from.now to.now width }
 {
-    put_coordinate(out, sink, b"<line x1=\"", &from.0)?;
-    put_coordinate(out, sink, b" y1=\"", &from.1)?;
-    put_coordinate(out, sink, b" x2=\"", &to.0)?;
-    put_coordinate(out, sink, b" y2=\"", &to.1)?;
-    put_stroke(out, sink, width)?;
-    out.put(sink, b"/>\n")
-}
-
-// Puts a coordinate as an attribute, behind what stands before its number.
-fn put_coordinate<K: Sink>(
-    out: &mut Buffered,
-    sink: &mut K,
-    before: &[u8],
-    value: &i64,
-) -> Result<(), Failed>
-    ensures { Puts K.Sink sink out (coordinate_behind before.now value.now) result }
-{
-    out.put(sink, before)?;
-    put_signed(out, sink, value)?;
-    out.put(sink, b"\"")
-}
-
-// Puts the colour and the width as attributes.
-fn put_stroke<K: Sink>(out: &mut Buffered, sink: &mut K, width: u32) -> Result<(), Failed>
-    ensures { Puts K.Sink sink out (stroke_text width) result }
-{
-    out.put(sink, b" stroke=\"black\" stroke-width=\"")?;
-    put_unsigned(out, sink, width)?;
-    out.put(sink, b"\"")
+    tail.clear();
+    tail.bytes(b"\"/>\n");
+    tail.number(i64::from(width));
+    tail.bytes(b"\" stroke=\"black\" stroke-width=\"");
+    tail.number(to.1);
+    tail.bytes(b"\" y2=\"");
+    tail.number(to.0);
+    tail.bytes(b"\" x2=\"");
+    tail.number(from.1);
+    tail.bytes(b"\" y1=\"");
+    tail.number(from.0);
+    tail.bytes(b"<line x1=\"");
 }
