@@ -24,7 +24,7 @@ help:
 	@echo '                         checkers of the tools are among them, and alone they are tools/check tools'
 	@echo 'make                     proves the program and builds it as bin/lsys, and says how far it is: an hour from nothing, after a'
 	@echo '                         change what stands on it'
-	@echo 'make gate                the whole gate, as .ci/run: some 5.5 hours of one processor from nothing (make prove is the same)'
+	@echo 'make gate                the whole gate, as .ci/run: 3 to 5 hours of one processor from nothing (make prove is the same)'
 	@echo 'make gallery             draws all scripts of examples/ with the proved program on one page, gallery/index.html'
 	@echo 'make dist                packs the proved program for people without the toolchain: build/$(PACKED).tar.gz and .deb'
 	@echo 'make install [PREFIX=..] installs what the package has: lsys, lsys-run, lsys-repl, lsys-look, lsys-export, the manual page,'

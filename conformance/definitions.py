@@ -6,7 +6,7 @@ usage: conformance/definitions [--batch N] [FILE ..]
 Each FILE has a case in each line, in JSON: {"name": .., "limit": .., "script": .., "replies": ..}. Each character of
 a script is one byte; `limit` may be missing, and is 100,000 then; a case with `beyond` is more than the checker
 computes in one theorem. For each case a theorem is written: the replies to the script, as
-lsys_desks/specs/Desks.antt defines them, are these replies. The proof is `refl`, so the checker computes the
+lsys_history/specs/Desks.antt defines them, are these replies. The proof is `refl`, so the checker computes the
 definitions and nothing else. The theorems stand in a crate under the folder of temporary files, over
 this repository's files of definitions that those of a desk stand on, without the laws above them, and are checked N
 files at a time, 40 cases in each.
@@ -40,7 +40,7 @@ HEAD = """-- Cases, which the checker computes.
 use Rattle.std.specs.Prelude.{◌≡◌, ℕ, List, [], ◌∷◌, ◌++◌, codes, refl}
 use Rattle.std.specs.Fmt.{digits}
 use Rattle.lsys_spec.specs.Output.{none, output_text}
-use Rattle.lsys_desks.specs.Desks.{desk_out}
+use Rattle.lsys_history.specs.Desks.{desk_out}
 
 abbrev run : ℕ → List ℕ → List ℕ
 run limit script = output_text (desk_out limit script none)

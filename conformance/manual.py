@@ -77,7 +77,7 @@ def missing_in_page(text: str) -> Iterator[str]:
 
 def words_of_language() -> tuple[set[str], set[str]]:
     """The words that begin a command, and those that only stand behind one, by the definitions of commands and of a desk's lines."""
-    text, desk = read("../crates/lsys_syntax/specs/Commands.antt"), read("../crates/lsys_desks/specs/Desks.antt")
+    text, desk = read("../crates/lsys_syntax/specs/Commands.antt"), read("../crates/lsys_history/specs/Desks.antt")
     asked = re.findall(r"bytes_eq text \(codes \"(\w+)\"\)", desk)
     settings = set(re.findall(r"^(?:lattice|numbering)_word \S+ = codes \"(\w+)\"", text, re.M))
     return set(re.findall(r"codes \"(\w+)\"", text)) - settings | set(asked), settings

@@ -22,7 +22,7 @@ from sources import clauses_in, crates, defined, lines_of, texts
 
 OPTIONS = {"--long", "--twice", "--once"}
 # The crates that hold definitions and laws alone.
-LAWS = ("lsys_syntax", "lsys_spec", "lsys_laws", "lsys_change")
+LAWS = ("lsys_syntax", "lsys_spec", "lsys_laws")
 
 
 def is_test(crate: str) -> bool:
