@@ -16,7 +16,7 @@ use Rattle.lsys_text.specs.Texts.{IsNameBytes}
 use Rattle.lsys_text.proofs.Kept.{name-kept}
 use Rattle.lsys_reading.specs.Patterns.{symbol_read}
 use Rattle.lsys_reading.specs.Heads.{patterns_of}
-use Rattle.lsys_reading.specs.declared.patterns.Pattern.{Pattern}
+use Rattle.lsys_reading.specs.declared.patterns.PatternSymbol.{PatternSymbol}
 use Rattle.lsys_bodies.specs.Formals.{Numbered, first_some, repeated_with, Adds, symbol_formals, formals_in, marked_formal}
 use Rattle.lsys_bodies.specs.declared.formals.FormalNames.{FormalNames}
 
@@ -172,7 +172,7 @@ drop-item xs i x l e = at_drop_more (λ ys. ys) xs i x l ∙ ap (λ y. y ∷ dro
 abbrev more : List (List ℕ) → List Piece
 more xs = more_pieces formal_pieces (map name_of xs)
 
-abbrev pieces : List Pattern → List Piece
+abbrev pieces : List PatternSymbol → List Piece
 pieces xs = string_pieces formal_pieces (patterns_of xs)
 
 pub more-step : {a m n : FormalNames} (fs : List (List ℕ)) (ps : List Piece) (xs : List (List ℕ)) (i : ℕ) (x : List ℕ) → i < length xs → x ≡ get_or xs i x
@@ -185,7 +185,7 @@ pub more-end : {a m : FormalNames} (fs : List (List ℕ)) (ps : List Piece) (xs 
     → Goes a fs ps m (drop i xs) (more (drop i xs)) → Adds a fs ps m
 more-end {a} {m} fs ps xs i l h = goes-done fs ps (subst (λ ys. Goes a fs ps m ys (more ys)) (drop_all i xs l) h)
 
-pub pattern-step : {a m n : FormalNames} (fs : List (List ℕ)) (ps : List Piece) (xs : List Pattern) (i : ℕ) (x : Pattern) → i < length xs → x ≡ get_or xs i x
+pub pattern-step : {a m n : FormalNames} (fs : List (List ℕ)) (ps : List Piece) (xs : List PatternSymbol) (i : ℕ) (x : PatternSymbol) → i < length xs → x ≡ get_or xs i x
     → Goes a fs ps m (formals_in (drop i xs)) (pieces (drop i xs)) → Adds m (symbol_formals x) (symbol_pieces formal_pieces (symbol_read x)) n
     → Goes a fs ps n (formals_in (drop (i + 1) xs)) (pieces (drop (i + 1) xs))
 pattern-step {a} {m} fs ps xs i x l e h k =
@@ -196,12 +196,12 @@ pattern-step {a} {m} fs ps xs i x l e h k =
     (subst (λ ys. Goes a fs ps m (formals_in ys) (pieces ys)) (drop-item xs i x l e) h) k)
     (adds-gap (ends_in_name (symbol_read x)) (begins_with_letter (patterns_of rest)))
 
-pub pattern-end : {a m : FormalNames} (fs : List (List ℕ)) (ps : List Piece) (xs : List Pattern) (i : ℕ) → length xs ≤ i
+pub pattern-end : {a m : FormalNames} (fs : List (List ℕ)) (ps : List Piece) (xs : List PatternSymbol) (i : ℕ) → length xs ≤ i
     → Goes a fs ps m (formals_in (drop i xs)) (pieces (drop i xs)) → Adds a fs ps m
 pattern-end {a} {m} fs ps xs i l h = goes-done fs ps (subst (λ ys. Goes a fs ps m (formals_in ys) (pieces ys)) (drop_all i xs l) h)
 
 -- the tokens of the next symbol
-pub pattern-room : (xs : List Pattern) (i : ℕ) (x : Pattern) (n all : ℕ) → i < length xs → x ≡ get_or xs i x → n + length (kinds_of (pieces (drop i xs))) ≡ all
+pub pattern-room : (xs : List PatternSymbol) (i : ℕ) (x : PatternSymbol) (n all : ℕ) → i < length xs → x ≡ get_or xs i x → n + length (kinds_of (pieces (drop i xs))) ≡ all
     → n + length (kinds_of (symbol_pieces formal_pieces (symbol_read x))) ≤ all
 pattern-room xs i x n all l e h =
     let rest = drop (i + 1) xs in
@@ -232,7 +232,7 @@ module _ {a : FormalNames} where
       adds-trans [] (x ∷ fs) (note a_symbol ∷ token k ∷ []) (params_pieces formal_pieces (map name_of (x ∷ fs))) h
       (opened (x ∷ fs) (note a_param ∷ token (Name (name_of x)) ∷ (more fs ++ token RightParen ∷ [])) inner)
 
-  pub adds-left : {b c : FormalNames} (xs : List Pattern) → 0 < length xs → Adds a (formals_in xs) (pieces xs) b → Adds b [] (token Less ∷ []) c → Adds a (formals_in xs) (left_pieces (patterns_of xs)) c
+  pub adds-left : {b c : FormalNames} (xs : List PatternSymbol) → 0 < length xs → Adds a (formals_in xs) (pieces xs) b → Adds b [] (token Less ∷ []) c → Adds a (formals_in xs) (left_pieces (patterns_of xs)) c
   adds-left [] l h k = absurd (omega arith)
   adds-left {b} {c} (x ∷ xs) l h k =
       let fs = formals_in (x ∷ xs) in
@@ -241,7 +241,7 @@ module _ {a : FormalNames} where
       adds-trans [] fs (note left_begins ∷ []) (pieces (x ∷ xs) ++ blank ∷ token Less ∷ blank ∷ []) (adds-note left_begins refl)
       (subst (λ gs. Adds a gs (pieces (x ∷ xs) ++ blank ∷ token Less ∷ blank ∷ []) c) (append-nil fs) (adds-trans fs [] (pieces (x ∷ xs)) (blank ∷ token Less ∷ blank ∷ []) h ending))
 
-  pub adds-right : {b c : FormalNames} (xs : List Pattern) → 0 < length xs → Adds a [] (token Greater ∷ []) b → Adds b (formals_in xs) (pieces xs) c → Adds a (formals_in xs) (right_pieces (patterns_of xs)) c
+  pub adds-right : {b c : FormalNames} (xs : List PatternSymbol) → 0 < length xs → Adds a [] (token Greater ∷ []) b → Adds b (formals_in xs) (pieces xs) c → Adds a (formals_in xs) (right_pieces (patterns_of xs)) c
   adds-right [] l h k = absurd (omega arith)
   adds-right {b} {c} (x ∷ xs) l h k =
       let fs = formals_in (x ∷ xs) in
@@ -251,6 +251,6 @@ module _ {a : FormalNames} where
       adds-trans [] fs (blank ∷ token Greater ∷ blank ∷ note right_begins ∷ []) (pieces (x ∷ xs)) beginning k
 
 -- their tokens
-pub left-count : (xs : List Pattern) → 0 < length xs → length (kinds_of (left_pieces (patterns_of xs))) ≡ length (kinds_of (pieces xs)) + 1
+pub left-count : (xs : List PatternSymbol) → 0 < length xs → length (kinds_of (left_pieces (patterns_of xs))) ≡ length (kinds_of (pieces xs)) + 1
 left-count [] l = absurd (omega arith)
 left-count (x ∷ xs) l = omega (arith, count-append (pieces (x ∷ xs)) (blank ∷ token Less ∷ blank ∷ []))

@@ -5,7 +5,7 @@ use Rattle.std.specs.Prelude.{option_map}
 use Rattle.std.proofs.lemmas.List.{get_or_default}
 use Rattle.lsys_syntax.specs.Tokens.{NameText, Kind}
 use Rattle.lsys_spec.specs.Values.{expr_tree}
-use Rattle.lsys_reading.specs.declared.span.Span.{Span}
+use Rattle.lsys_reading.specs.declared.span.ExprSpan.{ExprSpan}
 use Rattle.lsys_reading.specs.Spans.{option_at}
 use Rattle.lsys_bodies.specs.Building.{tree_at}
 
@@ -43,6 +43,6 @@ pub built-get : {A B C : Type 0} → (f : A → C) (g : B → C) (made : List A)
 built-get f g made x xs i d h s all = built-more f g made x xs i (get_or xs i d) h (get_or_default xs i d (get_or xs i d) h) s all
 
 -- a mapped option that is mapped
-pub option-at : (fs : List NameText) (ks : List Kind) (o : Option Span) → option_map (tree_at fs ks) o ≡ option_map (expr_tree fs) (option_at ks o)
+pub option-at : (fs : List NameText) (ks : List Kind) (o : Option ExprSpan) → option_map (tree_at fs ks) o ≡ option_map (expr_tree fs) (option_at ks o)
 option-at fs ks None = refl
 option-at fs ks (Some s) = refl

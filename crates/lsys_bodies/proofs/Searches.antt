@@ -13,11 +13,11 @@ use Rattle.lsys_text.specs.Tokens as text
 use Rattle.lsys_text.specs.declared.token_kind.Token.{Token}
 use Rattle.lsys_reading.specs.Spans.{IsSpan, AreSpans, expr_at, option_at}
 use Rattle.lsys_reading.specs.Images.{ImageIsAt, ImagesAreAt, module_at, image_at, images_at, params_at}
-use Rattle.lsys_reading.specs.declared.span.Span.{Span}
+use Rattle.lsys_reading.specs.declared.span.ExprSpan.{ExprSpan}
 use Rattle.lsys_module.specs.Views.{module_name}
 use Rattle.lsys_reading.specs.declared.rule.RuleLine.{RuleLine}
 use Rattle.lsys_reading.specs.declared.images.ImageModule.{ImageModule}
-use Rattle.lsys_reading.specs.declared.images.Image.{Image}
+use Rattle.lsys_reading.specs.declared.images.ImageSymbol.{ImageSymbol}
 use Rattle.lsys_bodies.specs.Formals.{Numbered, rest_pieces}
 use Rattle.lsys_bodies.specs.Searching.{count, Searches}
 use Rattle.lsys_bodies.specs.declared.formals.FormalNames.{FormalNames}
@@ -91,7 +91,7 @@ module _ {x : FormalNames} {n m : ℕ} (ts us : List Token) (i : ℕ) (t : Token
       ∙ ap (λ b. cond b (Some m) (unknown_place (map name_of fs) true (m + 1) (map token (text.kind_row (drop (i + 1) us)) ++ qs))) (sym (k fs known))
 
 -- the tokens of a span
-pub span-tokens : (ts : List Token) (s : Span) → IsSpan (text.kind_row ts) s → text.kind_row (take (s.to - s.from) (drop s.from ts)) ≡ expr_kinds (expr_at (text.kind_row ts) s)
+pub span-tokens : (ts : List Token) (s : ExprSpan) → IsSpan (text.kind_row ts) s → text.kind_row (take (s.to - s.from) (drop s.from ts)) ≡ expr_kinds (expr_at (text.kind_row ts) s)
 span-tokens ts s h =
     let kind : Token → Kind = λ t. kind_of t.kind in
     sym (h.kinds ∙ (ap (take (s.to - s.from)) (drop-map kind s.from ts) ∙ take-map kind (s.to - s.from) (drop s.from ts)))
@@ -153,17 +153,17 @@ module _ {x : FormalNames} {n m : ℕ} where
 
 -- 4. parameters, and the symbols of a successor
 
-abbrev pub params : List Kind → List Span → List Piece
+abbrev pub params : List Kind → List ExprSpan → List Piece
 params ks ss = more_pieces expr_pieces (params_at ks ss)
 
-abbrev pub pieces : List Kind → List Image → List Piece
+abbrev pub pieces : List Kind → List ImageSymbol → List Piece
 pieces ks xs = string_pieces expr_pieces (images_at ks xs)
 
 -- a mark, and the expression after it
 pub marked : {x : FormalNames} {n : ℕ} {result : Result ℕ ℕ} (k : Kind) (e : Expr) → Searches x (n + 1) (expr_pieces e) result → Searches x n (token k ∷ note a_param ∷ expr_pieces e) result
 marked {n = n} k e h = searches-on (token k ∷ []) (note a_param ∷ expr_pieces e) (searches-token k n) (searches-on (note a_param ∷ []) (expr_pieces e) (searches-note a_param (n + 1) refl) h)
 
-module _ {x : FormalNames} {n m : ℕ} (ks : List Kind) (ps : List Piece) (ss : List Span) (i : ℕ) (s : Span) (l : i < length ss) (e : s ≡ get_or ss i s) (h : SearchGoes x n ps m (params ks (drop i ss))) where
+module _ {x : FormalNames} {n m : ℕ} (ks : List Kind) (ps : List Piece) (ss : List ExprSpan) (i : ℕ) (s : ExprSpan) (l : i < length ss) (e : s ≡ get_or ss i s) (h : SearchGoes x n ps m (params ks (drop i ss))) where
   next-param : SearchGoes x n ps m ((token Comma ∷ note a_param ∷ expr_pieces (expr_at ks s)) ++ params ks (drop (i + 1) ss))
   next-param = subst (λ us. SearchGoes x n ps m (params ks us)) (drop-item ss i s l e) h
 
@@ -176,10 +176,10 @@ module _ {x : FormalNames} {n m : ℕ} (ks : List Kind) (ps : List Piece) (ss : 
   pub param-found : {p : ℕ} → Searches x (m + 1) (expr_pieces (expr_at ks s)) (Err p) → Searches x n ps (Err p)
   param-found k = search-found ps (token Comma ∷ note a_param ∷ expr_pieces (expr_at ks s)) (params ks (drop (i + 1) ss)) next-param (marked Comma (expr_at ks s) k)
 
-pub params-done : {x : FormalNames} {n m : ℕ} (ks : List Kind) (ps : List Piece) (ss : List Span) (i : ℕ) → length ss ≤ i → SearchGoes x n ps m (params ks (drop i ss)) → Searches x n ps (Ok m)
+pub params-done : {x : FormalNames} {n m : ℕ} (ks : List Kind) (ps : List Piece) (ss : List ExprSpan) (i : ℕ) → length ss ≤ i → SearchGoes x n ps m (params ks (drop i ss)) → Searches x n ps (Ok m)
 params-done {x = x} {n = n} {m = m} ks ps ss i l h = search-done ps (subst (λ us. SearchGoes x n ps m (params ks us)) (drop_all i ss l) h)
 
-module _ {x : FormalNames} {n m : ℕ} (ks : List Kind) (ps : List Piece) (xs : List Image) (i : ℕ) (y : Image) (l : i < length xs) (e : y ≡ get_or xs i y) (h : SearchGoes x n ps m (pieces ks (drop i xs))) where
+module _ {x : FormalNames} {n m : ℕ} (ks : List Kind) (ps : List Piece) (xs : List ImageSymbol) (i : ℕ) (y : ImageSymbol) (l : i < length xs) (e : y ≡ get_or xs i y) (h : SearchGoes x n ps m (pieces ks (drop i xs))) where
   abbrev behind : List Piece
   behind = gap (ends_in_name (image_at ks y)) (begins_with_letter (images_at ks (drop (i + 1) xs))) ++ pieces ks (drop (i + 1) xs)
 
@@ -198,16 +198,16 @@ module _ {x : FormalNames} {n m : ℕ} (ks : List Kind) (ps : List Piece) (xs : 
   pub image-found : {p : ℕ} → Searches x m (symbol_pieces expr_pieces (image_at ks y)) (Err p) → Searches x n ps (Err p)
   image-found k = search-found ps (symbol_pieces expr_pieces (image_at ks y)) behind next-image k
 
-pub images-done : {x : FormalNames} {n m : ℕ} (ks : List Kind) (ps : List Piece) (xs : List Image) (i : ℕ) → length xs ≤ i → SearchGoes x n ps m (pieces ks (drop i xs)) → Searches x n ps (Ok m)
+pub images-done : {x : FormalNames} {n m : ℕ} (ks : List Kind) (ps : List Piece) (xs : List ImageSymbol) (i : ℕ) → length xs ≤ i → SearchGoes x n ps m (pieces ks (drop i xs)) → Searches x n ps (Ok m)
 images-done {x = x} {n = n} {m = m} ks ps xs i l h = search-done ps (subst (λ us. SearchGoes x n ps m (pieces ks us)) (drop_all i xs l) h)
 
 -- what stands for items of a list
-pub spans-item : (ks : List Kind) (ss : List Span) (i : ℕ) (s : Span) → i < length ss → s ≡ get_or ss i s → AreSpans ks ss → IsSpan ks s
+pub spans-item : (ks : List Kind) (ss : List ExprSpan) (i : ℕ) (s : ExprSpan) → i < length ss → s ≡ get_or ss i s → AreSpans ks ss → IsSpan ks s
 spans-item ks [] i s l e h = absurd (omega arith)
 spans-item ks (r ∷ ss) zero s l e h = subst (IsSpan ks) (sym e) h.0
 spans-item ks (r ∷ ss) (suc i) s l e h = spans-item ks ss i s (omega (arith, l)) e h.1
 
-pub images-item : (ks : List Kind) (xs : List Image) (i : ℕ) (y : Image) → i < length xs → y ≡ get_or xs i y → ImagesAreAt ks xs → ImageIsAt ks y
+pub images-item : (ks : List Kind) (xs : List ImageSymbol) (i : ℕ) (y : ImageSymbol) → i < length xs → y ≡ get_or xs i y → ImagesAreAt ks xs → ImageIsAt ks y
 images-item ks [] i y l e h = absurd (omega arith)
 images-item ks (x ∷ xs) zero y l e h = subst (ImageIsAt ks) (sym e) h.0
 images-item ks (x ∷ xs) (suc i) y l e h = images-item ks xs i y (omega (arith, l)) e h.1
@@ -224,7 +224,7 @@ opened ps h = record { place = h.place; same = λ fs known qs. h.same fs known q
 pub module-count : (ks : List Kind) (y : ImageModule) → 0 < length y.params.items → count (symbol_pieces expr_pieces (module_at ks y)) ≡ count (params ks y.params.items) + 2
 module-count ks y l = by y.params.items l
   where
-    by : (ss : List Span) → 0 < length ss → count (symbol_pieces expr_pieces (S.Module (module_name y.name) (params_at ks ss))) ≡ count (params ks ss) + 2
+    by : (ss : List ExprSpan) → 0 < length ss → count (symbol_pieces expr_pieces (S.Module (module_name y.name) (params_at ks ss))) ≡ count (params ks ss) + 2
     by [] l = absurd (omega arith)
     by (s ∷ ss) l =
         let e = expr_pieces (expr_at ks s) in
@@ -234,7 +234,7 @@ pub searches-module : {x : FormalNames} {n : ℕ} {result : Result ℕ ℕ} (ks 
     → Searches x (n + 1) (params ks y.params.items ++ token RightParen ∷ []) result → Searches x n (symbol_pieces expr_pieces (module_at ks y)) result
 searches-module {x = x} {n = n} {result = result} ks y l = by y.params.items l
   where
-    by : (ss : List Span) → 0 < length ss → Searches x (n + 1) (params ks ss ++ token RightParen ∷ []) result → Searches x n (symbol_pieces expr_pieces (S.Module (module_name y.name) (params_at ks ss))) result
+    by : (ss : List ExprSpan) → 0 < length ss → Searches x (n + 1) (params ks ss ++ token RightParen ∷ []) result → Searches x n (symbol_pieces expr_pieces (S.Module (module_name y.name) (params_at ks ss))) result
     by [] l h = absurd (omega arith)
     by (s ∷ ss) l h =
         let rest = note a_param ∷ (expr_pieces (expr_at ks s) ++ (params ks ss ++ token RightParen ∷ [])) in

@@ -10,8 +10,8 @@ use Rattle.lsys_text.specs.Tokens.{name_of}
 use Rattle.lsys_module.specs.Views.{module_name}
 use Rattle.lsys_reading.specs.Heads.{patterns_of, formals_of}
 use Rattle.lsys_reading.specs.RuleLines.{rule_at}
-use Rattle.lsys_reading.specs.declared.patterns.Pattern.{Pattern}
-use Rattle.lsys_reading.specs.declared.patterns.Pattern.TheVariants as patterns
+use Rattle.lsys_reading.specs.declared.patterns.PatternSymbol.{PatternSymbol}
+use Rattle.lsys_reading.specs.declared.patterns.PatternSymbol.TheVariants as patterns
 use Rattle.lsys_reading.specs.declared.rule.RuleLine.{RuleLine}
 use Rattle.lsys_bodies.specs.Formals.{AreFormalNames, formals_in, formals_at, head_pieces, rest_pieces}
 use Rattle.lsys_bodies.specs.Searching.{count, found_or, Searches}
@@ -91,7 +91,7 @@ plain-head r =
     plain-append (left_pieces (patterns_of r.left.items)) (predecessor ++ right)
     (plain-append predecessor right (plain-right (patterns_of r.right.items)) (plain-params (formals_of r.predecessor))) (plain-left (patterns_of r.left.items))
 
-formals-same : (xs : List Pattern) → all_formals (patterns_of xs) ≡ map name_of (formals_in xs)
+formals-same : (xs : List PatternSymbol) → all_formals (patterns_of xs) ≡ map name_of (formals_in xs)
 formals-same [] = refl
 formals-same (patterns.Module x ∷ xs) = ap (λ fs. map name_of x.formals.items ++ fs) (formals-same xs) ∙ sym (names-append x.formals.items (formals_in xs))
 formals-same (patterns.Push ∷ xs) = formals-same xs

@@ -11,8 +11,8 @@ use Rattle.lsys_syntax.specs.Rules.{IsRule}
 use Rattle.lsys_spec.specs.Values.{Tree, expr_tree}
 use Rattle.lsys_spec.specs.Systems.{Homomorphism, main}
 use Rattle.lsys_reading.specs.declared.parts.LabeledRule.{LabeledRule}
-use Rattle.lsys_reading.specs.declared.span.Span.{Span}
-use Rattle.lsys_reading.specs.declared.images.Image.{Image}
+use Rattle.lsys_reading.specs.declared.span.ExprSpan.{ExprSpan}
+use Rattle.lsys_reading.specs.declared.images.ImageSymbol.{ImageSymbol}
 use Rattle.lsys_reading.specs.Spans.{expr_at}
 use Rattle.lsys_reading.specs.Images.{image_at}
 use Rattle.lsys_reading.specs.RuleLines.{rule_at}
@@ -55,7 +55,7 @@ abbrev pub homomorphism_at : List Kind → LabeledRule → Homomorphism
 homomorphism_at ks l = record { label = l.label; rule = rule_at ks l.rule }
 
 -- the tree of the expression at a span
-abbrev pub tree_at : List NameText → List Kind → Span → Tree
+abbrev pub tree_at : List NameText → List Kind → ExprSpan → Tree
 tree_at fs ks s = expr_tree fs (expr_at ks s)
 
 -- a symbol of a successor, its expressions as trees
@@ -65,5 +65,5 @@ symbol_tree fs S.Push = S.Push
 symbol_tree fs S.Pop = S.Pop
 symbol_tree fs S.Cut = S.Cut
 
-abbrev pub image_tree : List NameText → List Kind → Image → Symbol Tree
+abbrev pub image_tree : List NameText → List Kind → ImageSymbol → Symbol Tree
 image_tree fs ks x = symbol_tree fs (image_at ks x)

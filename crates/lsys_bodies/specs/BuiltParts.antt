@@ -11,10 +11,10 @@ use Rattle.lsys_expr.specs.Expression.{Expression}
 use Rattle.lsys_reading.specs.Heads.{patterns_of}
 use Rattle.lsys_reading.specs.Images.{image_at, images_at, params_at}
 use Rattle.lsys_reading.specs.RuleLines.{rule_at}
-use Rattle.lsys_reading.specs.declared.images.Image.{Image}
-use Rattle.lsys_reading.specs.declared.patterns.Pattern.{Pattern}
+use Rattle.lsys_reading.specs.declared.images.ImageSymbol.{ImageSymbol}
+use Rattle.lsys_reading.specs.declared.patterns.PatternSymbol.{PatternSymbol}
 use Rattle.lsys_reading.specs.declared.rule.RuleLine.{RuleLine}
-use Rattle.lsys_reading.specs.declared.span.Span.{Span}
+use Rattle.lsys_reading.specs.declared.span.ExprSpan.{ExprSpan}
 use Rattle.lsys_bodies.specs.Building.{image_tree, tree_at}
 use Rattle.lsys_bodies.specs.Views.{template_of, tree_in}
 use Rattle.lsys_bodies.specs.declared.body.Template.{Template}
@@ -22,7 +22,7 @@ use Rattle.lsys_bodies.specs.declared.body.Template.{Template}
 -- 1. expressions
 
 -- the tree of the expression at a span, with these formals
-abbrev pub span_tree : List (List ℕ) → List Token → Span → Tree
+abbrev pub span_tree : List (List ℕ) → List Token → ExprSpan → Tree
 span_tree fs ts s = tree_at (map name_of fs) (kind_row ts) s
 
 -- the tree of an expression, where there is one
@@ -30,32 +30,32 @@ abbrev pub optional_tree : Option Expression → Option Tree
 optional_tree o = option_map tree_in o
 
 -- the same of the expression at a span, where there is one
-abbrev pub optional_span_tree : List (List ℕ) → List Token → Option Span → Option Tree
+abbrev pub optional_span_tree : List (List ℕ) → List Token → Option ExprSpan → Option Tree
 optional_span_tree fs ts o = option_map (span_tree fs ts) o
 
 -- the trees of the expressions at these spans
-abbrev pub trees_at : List (List ℕ) → List Token → List Span → List Tree
+abbrev pub trees_at : List (List ℕ) → List Token → List ExprSpan → List Tree
 trees_at fs ts ss = map (span_tree fs ts) ss
 
 -- the expressions at these spans, as they are spelled
-abbrev pub expressions_in : List Token → List Span → List Expr
+abbrev pub expressions_in : List Token → List ExprSpan → List Expr
 expressions_in ts ss = params_at (kind_row ts) ss
 
 -- 2. symbols of a successor
 
 -- as it is spelled
-abbrev pub image_in : List Token → Image → Symbol Expr
+abbrev pub image_in : List Token → ImageSymbol → Symbol Expr
 image_in ts x = image_at (kind_row ts) x
 
-abbrev pub images_in : List Token → List Image → List (Symbol Expr)
+abbrev pub images_in : List Token → List ImageSymbol → List (Symbol Expr)
 images_in ts xs = images_at (kind_row ts) xs
 
 -- its expressions as trees, with these formals
-abbrev pub template_at : List (List ℕ) → List Token → Image → Symbol Tree
+abbrev pub template_at : List (List ℕ) → List Token → ImageSymbol → Symbol Tree
 template_at fs ts x = image_tree (map name_of fs) (kind_row ts) x
 
 -- these templates mean the symbols at these places
-abbrev pub MeanImages : List (List ℕ) → List Token → List Image → List Template → Type 0
+abbrev pub MeanImages : List (List ℕ) → List Token → List ImageSymbol → List Template → Type 0
 MeanImages fs ts xs templates = map template_of templates ≡ map (template_at fs ts) xs
 
 -- 3. formals
@@ -65,5 +65,5 @@ abbrev pub AreRuleFormals : List Kind → RuleLine → List (List ℕ) → Type 
 AreRuleFormals ks r fs = map name_of fs ≡ rule_formals (rule_at ks r)
 
 -- those of a context were added
-abbrev pub AddsFormalsOf : List Pattern → List (List ℕ) → List (List ℕ) → Type 0
+abbrev pub AddsFormalsOf : List PatternSymbol → List (List ℕ) → List (List ℕ) → Type 0
 AddsFormalsOf xs old new = map name_of new ≡ map name_of old ++ all_formals (patterns_of xs)

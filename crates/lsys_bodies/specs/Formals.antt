@@ -14,16 +14,16 @@ use Rattle.lsys_reading.specs.Heads.{patterns_of, formals_of}
 use Rattle.lsys_reading.specs.Spans.{option_at}
 use Rattle.lsys_reading.specs.Images.{images_at}
 use Rattle.lsys_reading.specs.RuleLines.{rule_at}
-use Rattle.lsys_reading.specs.declared.patterns.Pattern.{Pattern}
-use Rattle.lsys_reading.specs.declared.patterns.Pattern.TheVariants as patterns
+use Rattle.lsys_reading.specs.declared.patterns.PatternSymbol.{PatternSymbol}
+use Rattle.lsys_reading.specs.declared.patterns.PatternSymbol.TheVariants as patterns
 use Rattle.lsys_reading.specs.declared.rule.RuleLine.{RuleLine}
 use Rattle.lsys_bodies.specs.declared.formals.FormalNames.{FormalNames}
 
-abbrev pub symbol_formals : Pattern → List (List ℕ)
+abbrev pub symbol_formals : PatternSymbol → List (List ℕ)
 symbol_formals (patterns.Module x) = x.formals.items
 symbol_formals x = []
 
-abbrev pub formals_in : List Pattern → List (List ℕ)
+abbrev pub formals_in : List PatternSymbol → List (List ℕ)
 formals_in [] = []
 formals_in (x ∷ xs) = symbol_formals x ++ formals_in xs
 

@@ -4,7 +4,7 @@ use Rattle.lsys_syntax.specs.Tokens.{Kind}
 use Rattle.lsys_syntax.specs.Pieces.{Piece, kinds_of}
 use Rattle.lsys_syntax.specs.Checks.{unknown_place}
 use Rattle.lsys_text.specs.Tokens.{name_of}
-use Rattle.lsys_reading.specs.declared.span.Span.{Span}
+use Rattle.lsys_reading.specs.declared.span.ExprSpan.{ExprSpan}
 use Rattle.lsys_bodies.specs.Formals.{Numbered}
 use Rattle.lsys_bodies.specs.SpanPieces.{marked_span}
 use Rattle.lsys_bodies.specs.declared.formals.FormalNames.{FormalNames}
@@ -25,5 +25,5 @@ pub record Searches (x : FormalNames) (n : ℕ) (ps : List Piece) (result : Resu
       → unknown_place (map name_of fs) false n (ps ++ qs) ≡ found_or result (λ m. unknown_place (map name_of fs) false m qs)
 
 -- the same of the expression at a span, where there is one, after any mark
-abbrev pub SearchesSpan : FormalNames → ℕ → List Kind → Option Span → Result ℕ ℕ → Type 0
+abbrev pub SearchesSpan : FormalNames → ℕ → List Kind → Option ExprSpan → Result ℕ ℕ → Type 0
 SearchesSpan x n ks span result = (mark : Kind) → Searches x n (marked_span mark ks span) result

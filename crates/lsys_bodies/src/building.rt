@@ -13,7 +13,7 @@ use crate::body::{Body, SharedBody, Template};
 use crate::patterns::{all_formals, left_context, pattern, right_context};
 use crate::rule::{HomRule, Rule};
 use lsys_expr::{Expr, build_expr};
-use lsys_reading::{Image, LabeledRule, RuleLine, Span};
+use lsys_reading::{ExprSpan, ImageSymbol, LabeledRule, RuleLine};
 use lsys_text::{Name, Token, Word};
 use std::alloc::{AllocError, Global};
 
@@ -80,7 +80,7 @@ fn build_body(alloc: Global, tokens: &[Token], line: &RuleLine) -> Result<Shared
 fn optional(
     alloc: Global,
     tokens: &[Token],
-    span: Option<Span>,
+    span: Option<ExprSpan>,
     formals: &[Name],
 ) -> Result<Option<Expr>, AllocError>
     requires span { ConditionIsSpan (kind_row tokens.now) span }
@@ -98,7 +98,7 @@ fn optional(
 fn templates(
     alloc: Global,
     tokens: &[Token],
-    images: &[Image],
+    images: &[ImageSymbol],
     formals: &[Name],
 ) -> Result<Vec<Template>, AllocError>
     requires spans { ImagesAreAt (kind_row tokens.now) images.now }
@@ -117,7 +117,7 @@ fn templates(
 fn template(
     alloc: Global,
     tokens: &[Token],
-    image: &Image,
+    image: &ImageSymbol,
     formals: &[Name],
 ) -> Result<Template, AllocError>
     requires spans { ImageIsAt (kind_row tokens.now) image.now }
@@ -127,20 +127,20 @@ fn template(
     ensures trees { IfOk result (λ t. template_of t ≡ template_at formals.now tokens.now image.now) }
 {
     match image {
-        Image::Module(module) => Ok(Template::Module {
+        ImageSymbol::Module(module) => Ok(Template::Module {
             name: module.name,
             params: params(alloc, tokens, &module.params, formals)?,
         }),
-        Image::Push => Ok(Template::Push),
-        Image::Pop => Ok(Template::Pop),
-        Image::Cut => Ok(Template::Cut),
+        ImageSymbol::Push => Ok(Template::Push),
+        ImageSymbol::Pop => Ok(Template::Pop),
+        ImageSymbol::Cut => Ok(Template::Cut),
     }
 }
 
 fn params(
     alloc: Global,
     tokens: &[Token],
-    spans: &[Span],
+    spans: &[ExprSpan],
     formals: &[Name],
 ) -> Result<Vec<Expr>, AllocError>
     requires spans { AreSpans (kind_row tokens.now) spans.now }
@@ -159,7 +159,7 @@ fn params(
 fn expression(
     alloc: Global,
     tokens: &[Token],
-    span: Span,
+    span: ExprSpan,
     formals: &[Name],
 ) -> Result<Expr, AllocError>
     requires span { IsSpan (kind_row tokens.now) span }

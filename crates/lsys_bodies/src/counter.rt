@@ -4,7 +4,7 @@ ghost use Rattle.lsys_syntax.specs.Limits.{most_params, most_rule_tokens, most_s
 
 /// What was counted up to a token that no expression has.
 #[derive(Clone, Copy)]
-pub(crate) struct Counter {
+pub(crate) struct RuleCounts {
     /// The tokens of the rule.
     pub tokens: usize,
     /// The symbols of the string that the token stands in.

@@ -6,7 +6,7 @@ ghost use Rattle.lsys_syntax.specs.Pieces.{a_param, a_symbol, note, token};
 ghost use Rattle.lsys_bodies.specs.Counting.{Counting, IsOneMore, counts_with, inside_passes, next_passes, counts_of};
 ghost use Rattle.lsys_bodies.specs.CountedParts.{CountsExpression, CountsParam};
 
-use crate::counter::Counter;
+use crate::counter::RuleCounts;
 
 /// The most tokens of an expression.
 const MOST_EXPRESSION_TOKENS: usize = 256;
@@ -17,18 +17,18 @@ const MOST_RULE_TOKENS: usize = 2048;
 /// The most formals or parameters of a module.
 const MOST_PARAMS: usize = 8;
 
-impl Counter {
+impl RuleCounts {
     // Each answers what is counted after what it counts, or the tokens before the one at which a limit is passed.
 
     // A token, by which so many symbols and parameters begin.
-    fn one_more(self, symbols: usize, params: usize) -> Result<Counter, usize>
+    fn one_more(self, symbols: usize, params: usize) -> Result<RuleCounts, usize>
         requires few { params ≤ most_params + 1 }
         ensures { IsOneMore self symbols params result }
     {
         if self.next_passes(symbols, params) {
             return Err(self.tokens);
         }
-        Ok(Counter {
+        Ok(RuleCounts {
             tokens: self.tokens + 1,
             symbols,
             most: self.most,
@@ -43,14 +43,14 @@ impl Counter {
     }
 
     // The token that a symbol begins with.
-    pub(crate) fn symbol(self) -> Result<Counter, usize>
+    pub(crate) fn symbol(self) -> Result<RuleCounts, usize>
         ensures { (k : Kind) → Counting self (note a_symbol ∷ token k ∷ []) result }
     {
         self.one_more(self.symbols + 1, 0)
     }
 
     // Another token.
-    pub(crate) fn mark(self) -> Result<Counter, usize>
+    pub(crate) fn mark(self) -> Result<RuleCounts, usize>
         ensures counted { (k : Kind) → Counting self (token k ∷ []) result }
         ensures few { IfOk result (λ d. d.params ≤ most_params) }
     {
@@ -58,7 +58,7 @@ impl Counter {
     }
 
     // A formal after a mark.
-    pub(crate) fn formal(self) -> Result<Counter, usize>
+    pub(crate) fn formal(self) -> Result<RuleCounts, usize>
         ensures { (j k : Kind) → Counting self (token j ∷ note a_param ∷ token k ∷ []) result }
     {
         let marked = self.mark()?;
@@ -66,7 +66,7 @@ impl Counter {
     }
 
     // A parameter of so many tokens after a mark.
-    pub(crate) fn param(self, size: usize) -> Result<Counter, usize>
+    pub(crate) fn param(self, size: usize) -> Result<RuleCounts, usize>
         ensures { CountsParam self size result }
     {
         let marked = self.mark()?;
@@ -74,14 +74,14 @@ impl Counter {
     }
 
     // An expression of so many tokens that is no parameter.
-    pub(crate) fn expression(self, size: usize) -> Result<Counter, usize>
+    pub(crate) fn expression(self, size: usize) -> Result<RuleCounts, usize>
         ensures { CountsExpression (counts_of self) size result }
     {
         self.tokens_inside(self.params, size)
     }
 
     // The tokens of an expression, where so many parameters are counted.
-    fn tokens_inside(self, params: usize, size: usize) -> Result<Counter, usize>
+    fn tokens_inside(self, params: usize, size: usize) -> Result<RuleCounts, usize>
         requires few { params ≤ most_params + 1 }
         ensures { CountsExpression (counts_with self self.symbols params) size result }
     {
@@ -92,7 +92,7 @@ impl Counter {
             }
             tokens += 1;
         }
-        Ok(Counter {
+        Ok(RuleCounts {
             tokens,
             symbols: self.symbols,
             most: self.most,
@@ -101,14 +101,14 @@ impl Counter {
     }
 
     // Before a string that may have so many symbols.
-    pub(crate) fn section(self, most: usize) -> Counter
+    pub(crate) fn section(self, most: usize) -> RuleCounts
         requires { most ≤ most_successor_symbols }
         ensures tokens { result.tokens ≡ self.tokens }
         ensures symbols { result.symbols ≡ 0 }
         ensures most { result.most ≡ most }
         ensures params { result.params ≡ self.params }
     {
-        Counter {
+        RuleCounts {
             tokens: self.tokens,
             symbols: 0,
             most,

@@ -7,7 +7,7 @@ ghost use Rattle.lsys_bodies.specs.PatternPieces.{formals_pieces, left_context, 
 ghost use Rattle.lsys_bodies.specs.Searching.{count};
 ghost use Rattle.lsys_bodies.specs.AddedFormals.{AddsModule, AddsPattern, AddsPatterns};
 
-use lsys_reading::{Pattern, RuleLine};
+use lsys_reading::{PatternSymbol, RuleLine};
 use lsys_text::{Name, TokenKind};
 use std::alloc::{AllocError, Global};
 use std::collections::BTreeSet;
@@ -62,7 +62,7 @@ impl FormalNames {
     }
 
     // Those of a left context.
-    fn add_left(&mut self, symbols: &[Pattern]) -> Result<(), AllocError>
+    fn add_left(&mut self, symbols: &[PatternSymbol]) -> Result<(), AllocError>
         requires room { self.old.end + count (left_context symbols.now) ≤ usize.MAX }
         ensures { OnOk result (AddsPatterns self.old symbols.now (left_context symbols.now) self.new) }
     {
@@ -75,7 +75,7 @@ impl FormalNames {
     }
 
     // Those of a right context.
-    fn add_right(&mut self, symbols: &[Pattern]) -> Result<(), AllocError>
+    fn add_right(&mut self, symbols: &[PatternSymbol]) -> Result<(), AllocError>
         requires room { self.old.end + count (right_context symbols.now) ≤ usize.MAX }
         ensures { OnOk result (AddsPatterns self.old symbols.now (right_context symbols.now) self.new) }
     {
@@ -86,7 +86,7 @@ impl FormalNames {
         self.add_patterns(symbols)
     }
 
-    fn add_patterns(&mut self, symbols: &[Pattern]) -> Result<(), AllocError>
+    fn add_patterns(&mut self, symbols: &[PatternSymbol]) -> Result<(), AllocError>
         requires room { self.old.end + count (pieces_in symbols.now) ≤ usize.MAX }
         ensures { OnOk result (AddsPatterns self.old symbols.now (pieces_in symbols.now) self.new) }
     {
@@ -96,11 +96,11 @@ impl FormalNames {
         Ok(())
     }
 
-    fn add_pattern(&mut self, symbol: &Pattern) -> Result<(), AllocError>
+    fn add_pattern(&mut self, symbol: &PatternSymbol) -> Result<(), AllocError>
         requires room { self.old.end + count (pattern_pieces symbol.now) ≤ usize.MAX }
         ensures { OnOk result (AddsPattern self.old symbol.now self.new) }
     {
-        if let Pattern::Module(module) = symbol {
+        if let PatternSymbol::Module(module) = symbol {
             return self.add_module(&module.formals);
         }
         self.end += 1;

@@ -1,7 +1,5 @@
-//! Rules whole: how they are written, and their bodies, which copies of a system share.
-//!
-//! What refuses a rule by itself: an unknown name, a formal that repeats, a limit that is passed; each with the token at
-//! which it does.
+//! Rules whole: how they are written, their bodies, which copies of a system share, and what refuses a rule by itself: an unknown
+//! name, a formal that repeats, a limit that is passed; each with the token at which it does.
 //!
 //! `FormalNames::of` takes memory, once for a rule; the three checks take none. All are linear in the rule's tokens but
 //! for the logarithm of a search among its formals.

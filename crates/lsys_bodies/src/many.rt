@@ -6,8 +6,8 @@ ghost use Rattle.lsys_bodies.specs.Counting.{Counting};
 ghost use Rattle.lsys_bodies.specs.CountedParts.{CountsImage, CountsImages, CountsModule, CountsRule, CountsSpan, CountsSpans, CountsSuccessor, IsFirstPastLimits};
 ghost use Rattle.lsys_bodies.specs.PatternPieces.{left_context, module_pieces, more_formals_pieces, pattern_pieces, pieces_in, right_context};
 
-use crate::counter::Counter;
-use lsys_reading::{Image, Pattern, RuleLine, Span};
+use crate::counter::RuleCounts;
+use lsys_reading::{ExprSpan, ImageSymbol, PatternSymbol, RuleLine};
 use lsys_text::Name;
 
 /// The most modules of a left context.
@@ -33,10 +33,10 @@ pub fn first_many(from: usize, rule: &RuleLine) -> Option<usize>
 // Each answers what is counted after what it counts, or the tokens before the one at which a limit is passed.
 
 // All of a rule.
-fn count_rule(rule: &RuleLine) -> Result<Counter, usize>
+fn count_rule(rule: &RuleLine) -> Result<RuleCounts, usize>
     ensures { CountsRule rule.now result }
 {
-    let start = Counter {
+    let start = RuleCounts {
         tokens: 0,
         symbols: 0,
         most: 0,
@@ -52,7 +52,7 @@ fn count_rule(rule: &RuleLine) -> Result<Counter, usize>
 }
 
 // Formals, each after a mark.
-fn count_formals(counter: Counter, formals: &[Name]) -> Result<Counter, usize>
+fn count_formals(counter: RuleCounts, formals: &[Name]) -> Result<RuleCounts, usize>
     ensures { Counting counter (more_formals_pieces formals.now) result }
 {
     let mut counted = counter;
@@ -63,7 +63,7 @@ fn count_formals(counter: Counter, formals: &[Name]) -> Result<Counter, usize>
 }
 
 // A name, and the formals after it.
-fn count_module(counter: Counter, formals: &[Name]) -> Result<Counter, usize>
+fn count_module(counter: RuleCounts, formals: &[Name]) -> Result<RuleCounts, usize>
     ensures { (k : Kind) → Counting counter (module_pieces k formals.now) result }
 {
     let named = counter.symbol()?;
@@ -74,17 +74,17 @@ fn count_module(counter: Counter, formals: &[Name]) -> Result<Counter, usize>
     counted.mark()
 }
 
-fn count_pattern(counter: Counter, symbol: &Pattern) -> Result<Counter, usize>
+fn count_pattern(counter: RuleCounts, symbol: &PatternSymbol) -> Result<RuleCounts, usize>
     ensures { Counting counter (pattern_pieces symbol.now) result }
 {
     match symbol {
-        Pattern::Module(module) => count_module(counter, &module.formals),
-        Pattern::Push => counter.symbol(),
-        Pattern::Pop => counter.symbol(),
+        PatternSymbol::Module(module) => count_module(counter, &module.formals),
+        PatternSymbol::Push => counter.symbol(),
+        PatternSymbol::Pop => counter.symbol(),
     }
 }
 
-fn count_patterns(counter: Counter, symbols: &[Pattern]) -> Result<Counter, usize>
+fn count_patterns(counter: RuleCounts, symbols: &[PatternSymbol]) -> Result<RuleCounts, usize>
     ensures { Counting counter (pieces_in symbols.now) result }
 {
     let mut counted = counter;
@@ -95,14 +95,14 @@ fn count_patterns(counter: Counter, symbols: &[Pattern]) -> Result<Counter, usiz
 }
 
 // How many tokens an expression has.
-fn size(span: Span) -> usize
+fn size(span: ExprSpan) -> usize
     ensures { result ≡ span.to - span.from }
 {
     span.to.saturating_sub(span.from)
 }
 
 // An expression after a mark, where there is one.
-fn count_option(counter: Counter, span: Option<Span>) -> Result<Counter, usize>
+fn count_option(counter: RuleCounts, span: Option<ExprSpan>) -> Result<RuleCounts, usize>
     ensures { CountsSpan counter span result }
 {
     match span {
@@ -115,7 +115,7 @@ fn count_option(counter: Counter, span: Option<Span>) -> Result<Counter, usize>
 }
 
 // Parameters, each after a mark.
-fn count_params(counter: Counter, params: &[Span]) -> Result<Counter, usize>
+fn count_params(counter: RuleCounts, params: &[ExprSpan]) -> Result<RuleCounts, usize>
     ensures { CountsSpans counter params.now result }
 {
     let mut counted = counter;
@@ -125,19 +125,19 @@ fn count_params(counter: Counter, params: &[Span]) -> Result<Counter, usize>
     Ok(counted)
 }
 
-fn count_image(counter: Counter, image: &Image) -> Result<Counter, usize>
+fn count_image(counter: RuleCounts, image: &ImageSymbol) -> Result<RuleCounts, usize>
     ensures { CountsImage counter image.now result }
 {
     match image {
-        Image::Module(module) => count_image_module(counter, &module.params),
-        Image::Push => counter.symbol(),
-        Image::Pop => counter.symbol(),
-        Image::Cut => counter.symbol(),
+        ImageSymbol::Module(module) => count_image_module(counter, &module.params),
+        ImageSymbol::Push => counter.symbol(),
+        ImageSymbol::Pop => counter.symbol(),
+        ImageSymbol::Cut => counter.symbol(),
     }
 }
 
 // A name, and the parameters after it.
-fn count_image_module(counter: Counter, params: &[Span]) -> Result<Counter, usize>
+fn count_image_module(counter: RuleCounts, params: &[ExprSpan]) -> Result<RuleCounts, usize>
     ensures { CountsModule counter params.now result }
 {
     let named = counter.symbol()?;
@@ -148,7 +148,7 @@ fn count_image_module(counter: Counter, params: &[Span]) -> Result<Counter, usiz
     counted.mark()
 }
 
-fn count_images(counter: Counter, images: &[Image]) -> Result<Counter, usize>
+fn count_images(counter: RuleCounts, images: &[ImageSymbol]) -> Result<RuleCounts, usize>
     ensures { CountsImages counter images.now result }
 {
     let mut counted = counter;
@@ -159,7 +159,7 @@ fn count_images(counter: Counter, images: &[Image]) -> Result<Counter, usize>
 }
 
 // A left context, and the mark after it.
-fn count_left(counter: Counter, symbols: &[Pattern]) -> Result<Counter, usize>
+fn count_left(counter: RuleCounts, symbols: &[PatternSymbol]) -> Result<RuleCounts, usize>
     ensures { Counting counter (left_context symbols.now) result }
 {
     if symbols.is_empty() {
@@ -170,7 +170,7 @@ fn count_left(counter: Counter, symbols: &[Pattern]) -> Result<Counter, usize>
 }
 
 // A right context, and the mark before it.
-fn count_right(counter: Counter, symbols: &[Pattern]) -> Result<Counter, usize>
+fn count_right(counter: RuleCounts, symbols: &[PatternSymbol]) -> Result<RuleCounts, usize>
     ensures { Counting counter (right_context symbols.now) result }
 {
     if symbols.is_empty() {
@@ -180,7 +180,7 @@ fn count_right(counter: Counter, symbols: &[Pattern]) -> Result<Counter, usize>
     count_patterns(marked.section(MOST_RIGHT), symbols)
 }
 
-fn count_successor(counter: Counter, images: &[Image]) -> Result<Counter, usize>
+fn count_successor(counter: RuleCounts, images: &[ImageSymbol]) -> Result<RuleCounts, usize>
     ensures { CountsSuccessor counter images.now result }
 {
     if images.is_empty() {

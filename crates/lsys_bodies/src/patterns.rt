@@ -9,7 +9,7 @@ ghost use Rattle.lsys_bodies.specs.Views.{pattern_symbol, item_symbol};
 ghost use Rattle.lsys_bodies.specs.BuiltParts.{AddsFormalsOf, AreRuleFormals};
 
 use crate::body::{Item, Pattern};
-use lsys_reading::{Pattern as ContextSymbol, PatternModule, RuleLine};
+use lsys_reading::{PatternModule, PatternSymbol as ContextSymbol, RuleLine};
 use lsys_text::Name;
 use std::alloc::{AllocError, Global};
 

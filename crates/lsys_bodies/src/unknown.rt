@@ -12,7 +12,7 @@ ghost use Rattle.lsys_bodies.specs.FoundNames.{IsFirstUnknown};
 ghost use Rattle.lsys_bodies.specs.SpanPieces.{image_pieces, images_pieces, marked_span, more_spans};
 
 use crate::formals::FormalNames;
-use lsys_reading::{Image, RuleLine, Span};
+use lsys_reading::{ExprSpan, ImageSymbol, RuleLine};
 use lsys_text::Token;
 
 /// The first name of the rule's expressions that is no formal of it, by the number of its token.
@@ -41,7 +41,7 @@ fn search_option(
     tokens: &[Token],
     formals: &FormalNames,
     place: usize,
-    span: Option<Span>,
+    span: Option<ExprSpan>,
 ) -> Result<usize, usize>
     requires span { ConditionIsSpan (kind_row tokens.now) span }
     requires room { place + count (marked_span Colon (kind_row tokens.now) span) ≤ usize.MAX }
@@ -57,7 +57,7 @@ fn search_expression(
     tokens: &[Token],
     formals: &FormalNames,
     place: usize,
-    span: Span,
+    span: ExprSpan,
 ) -> Result<usize, usize>
     requires span { IsSpan (kind_row tokens.now) span }
     requires room { place + count (expr_pieces (expr_at (kind_row tokens.now) span)) ≤ usize.MAX }
@@ -78,7 +78,7 @@ fn search_params(
     tokens: &[Token],
     formals: &FormalNames,
     place: usize,
-    params: &[Span],
+    params: &[ExprSpan],
 ) -> Result<usize, usize>
     requires spans { AreSpans (kind_row tokens.now) params.now }
     requires room { place + count (more_spans (kind_row tokens.now) params.now) ≤ usize.MAX }
@@ -95,14 +95,14 @@ fn search_image(
     tokens: &[Token],
     formals: &FormalNames,
     place: usize,
-    image: &Image,
+    image: &ImageSymbol,
 ) -> Result<usize, usize>
     requires expressions { ImageIsAt (kind_row tokens.now) image.now }
     requires room { place + count (image_pieces (kind_row tokens.now) image.now) ≤ usize.MAX }
     ensures { Searches formals.now place (image_pieces (kind_row tokens.now) image.now) result }
 {
     match image {
-        Image::Module(module) if !module.params.is_empty() => {
+        ImageSymbol::Module(module) if !module.params.is_empty() => {
             let end = search_params(tokens, formals, place + 1, &module.params)?;
             Ok(end + 1)
         }
@@ -114,7 +114,7 @@ fn search_images(
     tokens: &[Token],
     formals: &FormalNames,
     place: usize,
-    images: &[Image],
+    images: &[ImageSymbol],
 ) -> Result<usize, usize>
     requires expressions { ImagesAreAt (kind_row tokens.now) images.now }
     requires room { place + count (images_pieces (kind_row tokens.now) images.now) ≤ usize.MAX }

@@ -24,7 +24,7 @@ use Rattle.lsys_children.specs.Answers.{kept_successors}
 use Rattle.lsys_children.proofs.Nexts.{lineage_with}
 use Rattle.lsys_children.proofs.Lengths.{made_count}
 use Rattle.lsys_children.specs.declared.parent.Parent.{Parent}
-use Rattle.lsys_children.specs.declared.count.Count.{Count}
+use Rattle.lsys_children.specs.declared.count.ChildCount.{ChildCount}
 use Rattle.lsys_children.specs.Parents.{wants}
 use Rattle.lsys_children.specs.Needs.{IsBoundedCount, number_from, number_told, params_told, room_told, wanted_symbols, need_for, need_at_parent, wanted_of, had_by, count_of_all, count_at_parent, with_count}
 
@@ -137,8 +137,8 @@ few_counted m n ws need had e f l few = record {
     told : need.told ≡ length ws + length n.kids + 1
     told = ap (λ (x : Need). x.told) e
 
-pub small_push : (n h h' : ℕ) (a b c : Count) → IsBoundedCount n h a → IsBoundedCount 1 b.had b → c ≡ with_count a b → h' ≡ h + b.had → IsBoundedCount (n + 1) h' c
-small_push n h h' a b c s t e f = subst (λ (x : Count). IsBoundedCount (n + 1) h' x) (sym e) (record {
+pub small_push : (n h h' : ℕ) (a b c : ChildCount) → IsBoundedCount n h a → IsBoundedCount 1 b.had b → c ≡ with_count a b → h' ≡ h + b.had → IsBoundedCount (n + 1) h' c
+small_push n h h' a b c s t e f = subst (λ (x : ChildCount). IsBoundedCount (n + 1) h' x) (sym e) (record {
   nodes = omega (arith, s.nodes, t.nodes);
   params = omega (arith, s.params, t.params);
   kids = omega (arith, s.kids, t.kids);

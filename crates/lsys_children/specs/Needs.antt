@@ -17,7 +17,7 @@ use Rattle.lsys_children.specs.Children.{births, notes_for}
 use Rattle.lsys_match.specs.Kept.{Kept}
 use Rattle.lsys_children.specs.Nexts.{wanted_count}
 use Rattle.lsys_children.specs.declared.parent.Parent.{Parent}
-use Rattle.lsys_children.specs.declared.count.Count.{Count}
+use Rattle.lsys_children.specs.declared.count.ChildCount.{ChildCount}
 use Rattle.lsys_children.specs.Parents.{wants}
 
 -- 1. one parent
@@ -93,7 +93,7 @@ wanted_of_all g m ps = sum_by (wanted_of g m) ps
 abbrev pub had_by_all : Nodes Kept → List Parent → ℕ
 had_by_all m ps = sum_by (had_by m) ps
 
-abbrev pub count_of_all : Numbering → Nodes Kept → List Parent → Count
+abbrev pub count_of_all : Numbering → Nodes Kept → List Parent → ChildCount
 count_of_all g m ps = record { need = needs g m ps; wanted = wanted_of_all g m ps; had = had_by_all m ps }
 
 -- Of the symbols of a successor, where so much is being cut off: how many the cuts leave, and the room that the parameters of
@@ -112,18 +112,18 @@ staying_room o (z ∷ zs) = cond (symbol_stays o z) (plain_room z) 0 + staying_r
 
 -- what the step takes for so many new children, whose parameters take so much room, of a parent that has none; and for those
 -- that a successor wants, by whatever numbering
-abbrev pub count_of_new : ℕ → ℕ → Count
+abbrev pub count_of_new : ℕ → ℕ → ChildCount
 count_of_new n room = record {
   need = record { nodes = n; params = room; kids = room_of n; notes = n + 1; told = n + 1 };
   wanted = n;
   had = 0;
 }
 
-abbrev pub count_anew : List (S.Symbol ℤ) → Count
+abbrev pub count_anew : List (S.Symbol ℤ) → ChildCount
 count_anew zs = count_of_new (staying_count None zs) (staying_room None zs)
 
 -- so it is with the root, of which the axiom wants its own
-abbrev pub count_below : {A : Type 0} → Numbering → Nodes A → ℕ → List (S.Symbol ℤ) → Count
+abbrev pub count_below : {A : Type 0} → Numbering → Nodes A → ℕ → List (S.Symbol ℤ) → ChildCount
 count_below g m root zs = record {
   need = need_for g m (kids_in (m root)) zs;
   wanted = wanted_count g zs;
@@ -131,14 +131,14 @@ count_below g m root zs = record {
 }
 
 -- and with one parent
-abbrev pub count_at_parent : Numbering → Nodes Kept → Parent → Count
+abbrev pub count_at_parent : Numbering → Nodes Kept → Parent → ChildCount
 count_at_parent g m p = record { need = need_at_parent g m p; wanted = wanted_of g m p; had = had_by m p }
 
-abbrev pub with_count : Count → Count → Count
+abbrev pub with_count : ChildCount → ChildCount → ChildCount
 with_count a b = record { need = with_need a.need b.need; wanted = a.wanted + b.wanted; had = a.had + b.had }
 
 -- a count is no more than n parents with h children can have
-pub record IsBoundedCount (n h : ℕ) (c : Count) : Type 0 where
+pub record IsBoundedCount (n h : ℕ) (c : ChildCount) : Type 0 where
   pub nodes : c.need.nodes ≤ n * 2 ^ 12
   pub params : c.need.params ≤ n * 2 ^ 16
   pub kids : c.need.kids ≤ n * 2 ^ 16

@@ -13,7 +13,7 @@ use Rattle.lsys_module.specs.Views.{symbol_of}
 use Rattle.lsys_module.specs.declared.symbol.Symbol.{Symbol}
 use Rattle.lsys_children.specs.declared.number.Number.{Number}
 use Rattle.lsys_children.specs.declared.child.Child.{Child}
-use Rattle.lsys_children.specs.declared.numbers.Numbers.{Numbers}
+use Rattle.lsys_children.specs.declared.numbers.SuccessorNumbers.{SuccessorNumbers}
 
 -- the number of a symbol with this code, after n symbols with these codes
 abbrev pub numbered_at : Numbering → ℕ → List ℕ → ℕ → Number
@@ -53,23 +53,23 @@ abbrev pub staying : ℕ → List Symbol → List Child
 staying key ss = wanted_from by_place key 0 [] None ss
 
 -- n symbols were numbered, with these codes
-pub record IsBehind (n : ℕ) (before : List ℕ) (a : Numbers) : Type 0 where
+pub record IsBehind (n : ℕ) (before : List ℕ) (a : SuccessorNumbers) : Type 0 where
   pub symbols : a.symbols ≡ n
   pub length : length before ≡ n
   pub counts : a.numbering ≡ code.Names
       → (c : ℕ) → count_at (get nat_eq a.counts) c ≡ count_by (λ d. d == c) before
 
 -- this is the number of the next symbol, which has this code
-abbrev pub IsNumberOf : Numbers → ℕ → Number → Type 0
+abbrev pub IsNumberOf : SuccessorNumbers → ℕ → Number → Type 0
 IsNumberOf a c number =
     (n : ℕ) (before : List ℕ) → IsBehind n before a
     → number ≡ numbered_at (numbering_of a.numbering) n before c
 
 -- one symbol more was numbered, with this code
-abbrev pub GoesBehind : Numbers → Numbers → ℕ → Type 0
+abbrev pub GoesBehind : SuccessorNumbers → SuccessorNumbers → ℕ → Type 0
 GoesBehind old new c =
     (n : ℕ) (before : List ℕ) → IsBehind n before old → IsBehind (n + 1) (c ∷ before) new
 
 -- fewer were numbered than there are numbers for a code
-abbrev pub AreFew : Numbers → Type 0
+abbrev pub AreFew : SuccessorNumbers → Type 0
 AreFew a = (n : ℕ) × (before : List ℕ) × IsBehind n before a × (n < number_base)

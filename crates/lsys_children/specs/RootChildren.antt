@@ -10,7 +10,7 @@ use Rattle.lsys_children.specs.declared.need.Need.{Need}
 use Rattle.lsys_children.specs.Matches.{nodes_without}
 use Rattle.lsys_children.specs.Children.{ToldNodes, SpendsNeed}
 use Rattle.lsys_children.specs.Renewals.{AreRenewals}
-use Rattle.lsys_children.specs.declared.count.Count.{Count}
+use Rattle.lsys_children.specs.declared.count.ChildCount.{ChildCount}
 use Rattle.lsys_children.specs.Needs.{need_for, number_told, wanted_symbols, count_below}
 use Rattle.lsys_children.specs.Made.{TellsAllOf}
 
@@ -21,7 +21,7 @@ module _ {A : Type 0} where
       need_for (numbering_of g) (now_of f) (kids_in (now_of f f.root)) (string_of symbols)
 
   -- the count is what it takes, how many children are wanted of it, and how many it has
-  abbrev pub CountsRoot : Numbering → Grove A → List Symbol → Count → Type 0
+  abbrev pub CountsRoot : Numbering → Grove A → List Symbol → ChildCount → Type 0
   CountsRoot g f symbols count =
       count ≡ count_below (numbering_of g) (now_of f) f.root (string_of symbols)
 

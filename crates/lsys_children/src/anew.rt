@@ -7,7 +7,7 @@ ghost use Rattle.lsys_children.specs.Answers.{kept_successors};
 ghost use Rattle.lsys_children.specs.Parents.{wants};
 ghost use Rattle.lsys_children.specs.Needs.{IsBoundedCount, count_anew, count_of_new, plain_room};
 
-use crate::count::Count;
+use crate::count::ChildCount;
 use crate::need::{Need, room_for};
 use crate::parent::Parent;
 use lsys_forest::Forest;
@@ -20,7 +20,7 @@ use std::sync::ledger::Ledger;
 
 /// Counts what the step takes for a parent that has no children. It costs steps by the length of what replaces the parent, and
 /// takes no memory.
-pub(crate) fn count_anew<L: Ledger>(forest: &Forest<KeptAnswer<L>>, parent: Parent) -> Count
+pub(crate) fn count_anew<L: Ledger>(forest: &Forest<KeptAnswer<L>>, parent: Parent) -> ChildCount
     requires lives { IsLive forest.now parent.node }
     requires short { length (kept_successors (now_of forest.now) parent.node) ≤ number_base }
     ensures count { result ≡ count_anew (wants (now_of forest.now) parent) }
@@ -39,7 +39,7 @@ pub(crate) fn count_anew<L: Ledger>(forest: &Forest<KeptAnswer<L>>, parent: Pare
 }
 
 /// Counts what it takes for those of these symbols that the cuts among them leave.
-fn count_staying(symbols: &[Symbol]) -> Count
+fn count_staying(symbols: &[Symbol]) -> ChildCount
     requires short { length symbols.now ≤ number_base }
     ensures count { result ≡ count_anew (string_of symbols.now) }
     ensures few { IsBoundedCount 1 result.had result }
@@ -80,13 +80,13 @@ fn room_if(stays: bool, symbol: &Symbol) -> usize
 
 /// The count of so many new children, whose parameters take so much room.
 #[tactic(auto, unfolding(lsys_region::specs::Rooms::room_of))]
-fn all_new(nodes: usize, params: usize) -> Count
+fn all_new(nodes: usize, params: usize) -> ChildCount
     requires nodes { nodes ≤ number_base }
     requires params { params ≤ 2 ^ 16 }
     ensures count { result ≡ count_of_new nodes params }
     ensures few { IsBoundedCount 1 result.had result }
 {
-    Count {
+    ChildCount {
         need: Need {
             nodes,
             params,

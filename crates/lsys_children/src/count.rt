@@ -21,7 +21,7 @@ use std::sync::ledger::Ledger;
 
 /// What the steps for some parents take together, how many children are wanted of them, and how many they have.
 #[derive(Clone, Copy, Debug, Drop)]
-pub struct Count {
+pub struct ChildCount {
     pub need: Need,
     pub wanted: usize,
     pub had: usize,
@@ -39,7 +39,7 @@ pub fn count_children<L: Ledger>(
     parents: &[Parent],
     wanted: &mut Wanted,
     brood: &mut Brood,
-) -> Result<Count, AllocError>
+) -> Result<ChildCount, AllocError>
     requires parents { HasParents (now_of forest.now) forest.now.root (nodes_in parents.now) }
     requires few { length parents.now ≤ 2 ^ 32 }
     requires had { had_by_all (now_of forest.now) parents.now ≤ 2 ^ 32 }
@@ -61,7 +61,7 @@ fn count_one<L: Ledger>(
     parent: Parent,
     wanted: &mut Wanted,
     brood: &mut Brood,
-) -> Result<Count, AllocError>
+) -> Result<ChildCount, AllocError>
     requires lives { IsLive forest.now parent.node }
     requires short { length (kept_successors (now_of forest.now) parent.node) ≤ number_base }
     ensures count { IfOk result (CountsOne (numbering_of numbering) (now_of forest.now) parent) }
@@ -74,7 +74,7 @@ fn count_one<L: Ledger>(
     fill_for(wanted, forest, numbering, parent)?;
     let children = wanted.children();
     let need = brood.count(forest, node, children)?;
-    Ok(Count {
+    Ok(ChildCount {
         need,
         wanted: children.len(),
         had: forest.children(node).len(),
@@ -82,7 +82,7 @@ fn count_one<L: Ledger>(
 }
 
 /// Nothing.
-const NONE: Count = Count {
+const NONE: ChildCount = ChildCount {
     need: Need {
         nodes: 0,
         params: 0,
@@ -95,11 +95,11 @@ const NONE: Count = Count {
 };
 
 /// Both together.
-fn both(one: &Count, more: &Count) -> Count
+fn both(one: &ChildCount, more: &ChildCount) -> ChildCount
     requires { AreAddable one.now more.now }
     ensures { result ≡ with_count one.now more.now }
 {
-    Count {
+    ChildCount {
         need: Need {
             nodes: one.need.nodes + more.need.nodes,
             params: one.need.params + more.need.params,

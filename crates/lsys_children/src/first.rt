@@ -10,7 +10,7 @@ ghost use Rattle.lsys_children.specs.RootChildren.{CountsRoot, need_of_root, IsR
 
 use crate::brood::Brood;
 use crate::changes::Changes;
-use crate::count::Count;
+use crate::count::ChildCount;
 use crate::wanted::Wanted;
 use lsys_forest::Forest;
 use lsys_module::Symbol;
@@ -32,7 +32,7 @@ pub fn count_first<L: Ledger>(
     symbols: &[Symbol],
     wanted: &mut Wanted,
     brood: &mut Brood,
-) -> Result<Count, AllocError>
+) -> Result<ChildCount, AllocError>
     requires short { length symbols.now ≤ number_base }
     ensures { IfOk result (CountsRoot numbering forest.now symbols.now) }
 {
@@ -40,7 +40,7 @@ pub fn count_first<L: Ledger>(
     wanted.fill(numbering, seed, symbols)?;
     let children = wanted.children();
     let need = brood.count(forest, root, children)?;
-    Ok(Count {
+    Ok(ChildCount {
         need,
         wanted: children.len(),
         had: forest.children(root).len(),

@@ -26,7 +26,7 @@ mod wanted;
 
 pub use brood::Brood;
 pub use changes::Changes;
-pub use count::{Count, count_children};
+pub use count::{ChildCount, count_children};
 pub use first::{count_first, make_first};
 pub use law::law_of_made_levels;
 pub use listing::list_level;

@@ -13,7 +13,7 @@ use std::collections::HashMap;
 
 /// What tells the symbols of a successor, one after another, from each other.
 #[derive(Drop)]
-pub(crate) struct Numbers {
+pub(crate) struct SuccessorNumbers {
     pub(crate) numbering: Lineage,
     // how many symbols there were
     pub(crate) symbols: u32,
@@ -21,10 +21,10 @@ pub(crate) struct Numbers {
     pub(crate) counts: HashMap<u64, u32>,
 }
 
-impl Numbers {
+impl SuccessorNumbers {
     /// Takes no memory.
-    pub(crate) fn new(alloc: Global) -> Numbers {
-        Numbers {
+    pub(crate) fn new(alloc: Global) -> SuccessorNumbers {
+        SuccessorNumbers {
             numbering: Lineage::Places,
             symbols: 0,
             counts: HashMap::new(alloc),

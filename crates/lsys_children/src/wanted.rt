@@ -9,7 +9,7 @@ ghost use Rattle.lsys_children.specs.NumbersOf.{PutsChildIfLeft};
 
 use crate::child::Child;
 use crate::number::Number;
-use crate::numbers::{Numbers, first_number};
+use crate::numbers::{SuccessorNumbers, first_number};
 use lsys_draw::child_key;
 use lsys_level::Sight;
 use lsys_module::{Module, Params, Symbol};
@@ -21,7 +21,7 @@ use std::marker::Model;
 /// The children that a successor wants of one parent, in order. They keep their room from one successor to the next.
 #[derive(Drop)]
 pub struct Wanted {
-    numbers: Numbers,
+    numbers: SuccessorNumbers,
     children: Vec<Child>,
 }
 
@@ -40,7 +40,7 @@ impl Wanted {
         ensures { result ≡ [] }
     {
         Wanted {
-            numbers: Numbers::new(alloc),
+            numbers: SuccessorNumbers::new(alloc),
             children: Vec::new(alloc),
         }
     }

@@ -11,23 +11,23 @@ use Rattle.lsys_session.specs.declared.outcome.Outcome.{Outcome}
 use Rattle.lsys_session.specs.declared.outcome.Outcome.TheVariants as outcomes
 use Rattle.lsys_cli.specs.Steps.{is_taken, steps_after, steps_by}
 use Rattle.lsys_cli.specs.Views.{bench}
-use Rattle.lsys_cli.specs.declared.step.Step.{Step}
-use Rattle.lsys_cli.specs.declared.step.Step.TheVariants.{Edit, Undo, Redo}
+use Rattle.lsys_cli.specs.declared.step.DeskStep.{DeskStep}
+use Rattle.lsys_cli.specs.declared.step.DeskStep.TheVariants.{Edit, Undo, Redo}
 
 module _ (P : System → Type 0) where
   pub none_kept : EachKept P nothing_kept
   none_kept = record { past = All-nil P; future = All-nil P }
 
-  step_kept : (step : Step) (h : Timeline System) (s : System) → EachKept P h → P s → EachKept P (steps_by step h s)
+  step_kept : (step : DeskStep) (h : Timeline System) (s : System) → EachKept P h → P s → EachKept P (steps_by step h s)
   step_kept Edit h s k p = record { past = All-drop P (length (h.past ++ s ∷ []) - most_kept) (h.past ++ s ∷ []) (All-push P h.past s k.past p); future = All-nil P }
   step_kept Undo h s k p = record { past = All-take P (length h.past - 1) h.past k.past; future = All-push P h.future s k.future p }
   step_kept Redo h s k p = record { past = All-push P h.past s k.past p; future = All-take P (length h.future - 1) h.future k.future }
 
-  unless_kept : (taken : Bool) (step : Step) (h : Timeline System) (s : System) → EachKept P h → P s → EachKept P (elim taken [ true ↦ steps_by step h s | false ↦ h ])
+  unless_kept : (taken : Bool) (step : DeskStep) (h : Timeline System) (s : System) → EachKept P h → P s → EachKept P (elim taken [ true ↦ steps_by step h s | false ↦ h ])
   unless_kept true step h s k p = step_kept step h s k p
   unless_kept false step h s k p = k
 
-  pub steps_kept : (led : Result Outcome Failed) (step : Step) (h : Timeline System) (s : System) → EachKept P h → P s → EachKept P (steps_after led step h s)
+  pub steps_kept : (led : Result Outcome Failed) (step : DeskStep) (h : Timeline System) (s : System) → EachKept P h → P s → EachKept P (steps_after led step h s)
   steps_kept led step h s k p = unless_kept (is_taken led) step h s k p
 
   pub nearest_kept : (xs : List System) (s : System) → All P xs → nearest xs ≡ Some s → P s
@@ -42,7 +42,7 @@ same_bench : {D : Type 0} {a b : D} {h k : Timeline System} → a ≡ b → h �
 same_bench e f = rw (e, f) refl
 
 -- What isn't accepted leaves the derivation and the steps as they were.
-pub stays_unless_accepted : {D : Type 0} (before after : D) {then : Timeline System} (led : Result Outcome Failed) (step : Step) (h : Timeline System) (s : System) → IfOk led (λ o. o ≢ outcomes.Accepted → after ≡ before)
+pub stays_unless_accepted : {D : Type 0} (before after : D) {then : Timeline System} (led : Result Outcome Failed) (step : DeskStep) (h : Timeline System) (s : System) → IfOk led (λ o. o ≢ outcomes.Accepted → after ≡ before)
     → then ≡ steps_after led step h s → IfOk led (λ o. o ≢ outcomes.Accepted → bench after then ≡ bench before h)
 stays_unless_accepted before after (Ok outcomes.Accepted) step h s d e = λ n. absurd (n refl)
 stays_unless_accepted before after (Ok outcomes.Skipped) step h s d e = λ n. same_bench (d n) e

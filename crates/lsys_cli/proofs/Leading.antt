@@ -23,9 +23,9 @@ use Rattle.lsys_session.specs.declared.outcome.Outcome.{Outcome}
 use Rattle.lsys_session.specs.declared.outcome.Outcome.TheVariants as outcomes
 use Rattle.lsys_cli.specs.Answers.{Became, WasServed, WasServedOrLacked, step_answer}
 use Rattle.lsys_cli.specs.Steps.{LeadsSomewhere, asked_along, asked_word, kept_along, step_along, steps_after, steps_by}
-use Rattle.lsys_cli.specs.declared.step.Step.{Step}
-use Rattle.lsys_cli.specs.declared.step.Way.{Way}
-use Rattle.lsys_cli.specs.declared.step.Way.TheVariants.{Back, On}
+use Rattle.lsys_cli.specs.declared.step.DeskStep.{DeskStep}
+use Rattle.lsys_cli.specs.declared.step.DeskWay.{DeskWay}
+use Rattle.lsys_cli.specs.declared.step.DeskWay.TheVariants.{Back, On}
 
 if_ok : {P : Type 0} (result : Result Outcome Failed) → P → IfOk result (λ o. P)
 if_ok (Ok o) p = p
@@ -76,20 +76,20 @@ module _ {K : Type 0} (written : K → Option (List ℕ)) (faults : K → ℕ) (
       → WasServedOrLacked written faults a b held d (own_reply limit d redo) new result
   redo_leads limit s new e g = subst (λ o. WasServedOrLacked written faults a b held d (stepped_to limit d (codes "redo") (timelines.redone d.steps d.system) o) new result) e g
 
-  pub no_step : (way : Way) (limit : ℕ) → None ≡ timelines.nearest (kept_along way d.steps) → WasSaid written faults a b held (codes "refused " ++ asked_word way ++ line_feed) outcomes.Refused result
+  pub no_step : (way : DeskWay) (limit : ℕ) → None ≡ timelines.nearest (kept_along way d.steps) → WasSaid written faults a b held (codes "refused " ++ asked_word way ++ line_feed) outcomes.Refused result
       → WasServedOrLacked written faults a b held d (own_reply limit d (asked_along way)) d result
   no_step Back limit e says = no_undo limit e says
   no_step On limit e says = no_redo limit e says
 
-  pub step_leads : (way : Way) (limit : ℕ) (s : System) (new : Desk) → Some s ≡ timelines.nearest (kept_along way d.steps)
+  pub step_leads : (way : DeskWay) (limit : ℕ) (s : System) (new : Desk) → Some s ≡ timelines.nearest (kept_along way d.steps)
       → WasServedOrLacked written faults a b held d (step_answer limit d s (steps_by (step_along way) d.steps d.system)) new result → WasServedOrLacked written faults a b held d (own_reply limit d (asked_along way)) new result
   step_leads Back limit s new e g = undo_leads limit s new e g
   step_leads On limit s new e g = redo_leads limit s new e g
 
-  pub step_leads_by : (way : Way) (step : Step) → step ≡ step_along way → (limit : ℕ) (s : System) (new : Desk) → Some s ≡ timelines.nearest (kept_along way d.steps)
+  pub step_leads_by : (way : DeskWay) (step : DeskStep) → step ≡ step_along way → (limit : ℕ) (s : System) (new : Desk) → Some s ≡ timelines.nearest (kept_along way d.steps)
       → WasServedOrLacked written faults a b held d (step_answer limit d s (steps_by step d.steps d.system)) new result → WasServedOrLacked written faults a b held d (own_reply limit d (asked_along way)) new result
   step_leads_by way step is limit s new e g =
-      step_leads way limit s new e (subst (λ (x : Step). WasServedOrLacked written faults a b held d (step_answer limit d s (steps_by x d.steps d.system)) new result) is g)
+      step_leads way limit s new e (subst (λ (x : DeskStep). WasServedOrLacked written faults a b held d (step_answer limit d s (steps_by x d.steps d.system)) new result) is g)
 
   -- 3. growth
 
@@ -143,7 +143,7 @@ module _ {K : Type 0} (written : K → Option (List ℕ)) (faults : K → ℕ) (
 
 -- 5. a step
 
-module _ {K : Type 0} (written : K → Option (List ℕ)) (faults : K → ℕ) (a b : K) (held : List ℕ) (limit : ℕ) (d : Desk) (to : System) (step : Step) where
+module _ {K : Type 0} (written : K → Option (List ℕ)) (faults : K → ℕ) (a b : K) (held : List ℕ) (limit : ℕ) (d : Desk) (to : System) (step : DeskStep) where
   abbrev steps : timelines.Timeline System
   steps = steps_by step d.steps d.system
 
@@ -202,10 +202,10 @@ module _ {K : Type 0} (written : K → Option (List ℕ)) (faults : K → ℕ) (
 
 -- 6. along the systems that are kept
 
-pub leads_somewhere : (way : Way) (h : timelines.Timeline System) → kept_along way h ≢ [] → LeadsSomewhere (step_along way) h
+pub leads_somewhere : (way : DeskWay) (h : timelines.Timeline System) → kept_along way h ≢ [] → LeadsSomewhere (step_along way) h
 leads_somewhere Back h some = some
 leads_somewhere On h some = some
 
-pub each_along : (P : System → Type 0) (way : Way) (h : timelines.Timeline System) → EachKept P h → All P (kept_along way h)
+pub each_along : (P : System → Type 0) (way : DeskWay) (h : timelines.Timeline System) → EachKept P h → All P (kept_along way h)
 each_along P Back h k = k.past
 each_along P On h k = k.future

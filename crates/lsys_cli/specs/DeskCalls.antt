@@ -22,7 +22,7 @@ use Rattle.lsys_cli.specs.Motions.{pose_line, pose_outcome}
 use Rattle.lsys_cli.specs.Steps.{steps_by}
 use Rattle.lsys_cli.specs.Views.{Bench, desk_line_of, desk_on}
 use Rattle.lsys_cli.specs.declared.desk_line.DeskLine.{DeskLine}
-use Rattle.lsys_cli.specs.declared.step.Step.{Step}
+use Rattle.lsys_cli.specs.declared.step.DeskStep.{DeskStep}
 
 -- 1. what is written, and which desk is kept; its derivations are told by their limits and systems
 
@@ -39,7 +39,7 @@ Serves K sink out limit_of system_of self asked result =
     (own_reply (limit_of self.entry.now.derivation) (desk_on system_of self.entry.now) asked) (desk_on system_of self.exit.now) result
 
 -- the reply of a step that leads to a system, or `refused memory`
-abbrev pub ServesStep : {K D : Type 0} → Step → System → SinkOf K → Lent K → Lent (List ℕ) → (D → ℕ) → (D → System) → Lent (Bench D) → Result Outcome Failed → Type 0
+abbrev pub ServesStep : {K D : Type 0} → DeskStep → System → SinkOf K → Lent K → Lent (List ℕ) → (D → ℕ) → (D → System) → Lent (Bench D) → Result Outcome Failed → Type 0
 ServesStep step to K sink out limit_of system_of self result =
     WasServedOrLacked K.written K.faults sink.entry.now sink.exit.now out.exit.now (desk_on system_of self.entry.now)
     (step_answer (limit_of self.entry.now.derivation) (desk_on system_of self.entry.now) to

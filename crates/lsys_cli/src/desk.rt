@@ -15,7 +15,7 @@ use crate::growth_reply::answer_growth;
 use crate::kept_motions::{HasMotions, KeptMotions, forget_motions};
 use crate::picture_reply::{answer_bounds, answer_place};
 use crate::sayings::say;
-use crate::step::{Step, Way, take_step};
+use crate::step::{DeskStep, DeskWay, take_step};
 use lsys_history::History;
 use lsys_io::{Buffered, Failed, Sink};
 use lsys_match::Steps;
@@ -141,7 +141,15 @@ impl<L: Ledger, D: HasMotions<L>> Desk<L, D> {
             Err(refusal) => return refuse(out, sink, refusal),
         };
         match request {
-            Request::Edit(next) => self.lead(alloc, Step::Edit, next, out, sink, asked, visited),
+            Request::Edit(next) => self.lead(
+                alloc,
+                DeskStep::Edit,
+                next,
+                out,
+                sink,
+                asked,
+                visited,
+            ),
             request => self
                 .session
                 .answer(alloc, request, out, sink, asked, visited),
@@ -167,8 +175,8 @@ impl<L: Ledger, D: HasMotions<L>> Desk<L, D> {
         ensures leads { IfOk result (TellsLead (own_lead D.system_of self.old line)) }
     {
         match line {
-            DeskLine::Undo => self.go(alloc, Way::Back, out, sink, asked, visited),
-            DeskLine::Redo => self.go(alloc, Way::On, out, sink, asked, visited),
+            DeskLine::Undo => self.go(alloc, DeskWay::Back, out, sink, asked, visited),
+            DeskLine::Redo => self.go(alloc, DeskWay::On, out, sink, asked, visited),
             DeskLine::Growth { level } => {
                 answer_growth(alloc, self.session.system(), level, out, sink)
             }
@@ -223,7 +231,7 @@ impl<L: Ledger, D: HasMotions<L>> Desk<L, D> {
     fn go<K: Sink, V: Ledger>(
         &mut self,
         alloc: Global,
-        way: Way,
+        way: DeskWay,
         out: &mut Buffered,
         sink: &mut K,
         asked: &mut Steps<L>,
@@ -251,7 +259,7 @@ impl<L: Ledger, D: HasMotions<L>> Desk<L, D> {
     fn lead<K: Sink, V: Ledger>(
         &mut self,
         alloc: Global,
-        step: Step,
+        step: DeskStep,
         system: System,
         out: &mut Buffered,
         sink: &mut K,
@@ -280,7 +288,7 @@ impl<L: Ledger, D: HasMotions<L>> Desk<L, D> {
     fn lead_from<K: Sink, V: Ledger>(
         &mut self,
         alloc: Global,
-        step: Step,
+        step: DeskStep,
         present: System,
         system: System,
         out: &mut Buffered,

@@ -11,7 +11,7 @@ use lsys_session::Outcome;
 
 /// Which way a desk goes from one system to another.
 #[derive(Clone, Copy)]
-pub(crate) enum Step {
+pub(crate) enum DeskStep {
     /// By an edit.
     Edit,
     /// Back to the nearest system of the past.
@@ -22,31 +22,31 @@ pub(crate) enum Step {
 
 /// Which way a desk goes along the systems that it keeps.
 #[derive(Clone, Copy)]
-pub(crate) enum Way {
+pub(crate) enum DeskWay {
     /// To the past, by an undo.
     Back,
     /// To what was undone, by a redo.
     On,
 }
 
-impl Way {
+impl DeskWay {
     /// The nearest system on this way; none where nothing is kept there.
     pub(crate) fn nearest(self, history: &History<System>) -> Option<&System>
         ensures { option_copied result ≡ nearest (kept_along self history.now) }
     {
         match self {
-            Way::Back => history.last(),
-            Way::On => history.next(),
+            DeskWay::Back => history.last(),
+            DeskWay::On => history.next(),
         }
     }
 
     /// The step to it.
-    pub(crate) fn step(self) -> Step
+    pub(crate) fn step(self) -> DeskStep
         ensures { result ≡ step_along self }
     {
         match self {
-            Way::Back => Step::Undo,
-            Way::On => Step::Redo,
+            DeskWay::Back => DeskStep::Undo,
+            DeskWay::On => DeskStep::Redo,
         }
     }
 
@@ -55,8 +55,8 @@ impl Way {
         ensures { result.now ≡ codes "refused " ++ asked_word self ++ line_feed }
     {
         match self {
-            Way::Back => b"refused undo\n",
-            Way::On => b"refused redo\n",
+            DeskWay::Back => b"refused undo\n",
+            DeskWay::On => b"refused redo\n",
         }
     }
 }
@@ -64,7 +64,7 @@ impl Way {
 /// Takes a step away from the present system, where the one that it leads to was accepted and its reply was put.
 pub(crate) fn take_step(
     history: &mut History<System>,
-    step: Step,
+    step: DeskStep,
     led: Result<Outcome, Failed>,
     present: System,
 )
@@ -87,16 +87,16 @@ fn is_taken(led: Result<Outcome, Failed>) -> bool
 }
 
 // Takes a step away from the present system.
-fn step_away(history: &mut History<System>, step: Step, present: System)
+fn step_away(history: &mut History<System>, step: DeskStep, present: System)
     requires { LeadsSomewhere step history.old }
     ensures { history.new ≡ steps_by step history.old present }
 {
     match step {
-        Step::Edit => history.keep(present),
-        Step::Undo => {
+        DeskStep::Edit => history.keep(present),
+        DeskStep::Undo => {
             history.step_back(present);
         }
-        Step::Redo => {
+        DeskStep::Redo => {
             history.step_on(present);
         }
     }

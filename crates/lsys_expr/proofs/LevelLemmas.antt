@@ -3,20 +3,20 @@ use Rattle.std.proofs.Common.{◌≡◌, ◌≤◌, ◌<◌, ◌+◌, ◌-◌, �
 use Rattle.std.proofs.lemmas.Bool.Decides.{nat_tests}
 use Rattle.std.proofs.lemmas.Grind.{drop-set_at}
 use Rattle.std.proofs.Common.{length-set, length-drop}
-use Rattle.lsys_expr.specs.declared.levels.Level.{Level}
-use Rattle.lsys_expr.specs.declared.levels.Levels.TheInside.{Inside}
+use Rattle.lsys_expr.specs.declared.levels.OpenLevel.{OpenLevel}
+use Rattle.lsys_expr.specs.declared.levels.OpenLevels.TheInside.{Inside}
 use Rattle.lsys_expr.specs.Levels.{fresh, inner_nesting, outer_nesting, is_inside}
 use Rattle.lsys_expr.specs.InsideLevels.{inside_levels, CountsOpen}
 
 -- a parenthesis is open where the array is in use
-pub inside-drop : (xs : List Level) (l : Level) (i : ℕ) → nat_lt i (length xs) ≡ is_inside (l ∷ drop i xs)
+pub inside-drop : (xs : List OpenLevel) (l : OpenLevel) (i : ℕ) → nat_lt i (length xs) ≡ is_inside (l ∷ drop i xs)
 inside-drop [] l zero = refl
 inside-drop [] l (suc i) = grind (arith, nat_tests)
 inside-drop (x ∷ xs) l zero = grind (arith, nat_tests)
 inside-drop (x ∷ xs) l (suc i) = let one : nat_lt (suc i) (suc (length xs)) ≡ nat_lt i (length xs) = grind (arith, nat_tests) in one ∙ inside-drop xs l i
 
 -- each level around the innermost one is after a parenthesis
-outer-length : (ls : List Level) → length ls ≤ outer_nesting ls
+outer-length : (ls : List OpenLevel) → length ls ≤ outer_nesting ls
 outer-length [] = omega arith
 outer-length (l ∷ ls) = let h : length ls ≤ outer_nesting ls = outer-length ls in omega (arith, h)
 

@@ -15,49 +15,49 @@ use Rattle.lsys_text.specs.Tokens.{kind_of, kind_row}
 use Rattle.lsys_text.specs.declared.token_kind.Token.{Token as TextToken}
 use Rattle.lsys_text.specs.declared.refusals.PlaceRefusal.{PlaceRefusal}
 use Rattle.lsys_text.specs.declared.refusals.PlaceRefusal.TheVariants.{Token, Deep}
-use Rattle.lsys_expr.specs.declared.levels.Level.{Level}
+use Rattle.lsys_expr.specs.declared.levels.OpenLevel.{OpenLevel}
 use Rattle.lsys_expr.specs.declared.scan.Awaited.{Awaited}
-use Rattle.lsys_expr.specs.declared.scan.Outcome.TheVariants.{Goes, Ends, Stops, TooDeep}
+use Rattle.lsys_expr.specs.declared.scan.TokenEffect.TheVariants.{Goes, Ends, Stops, TooDeep}
 use Rattle.lsys_expr.specs.Levels.{inner_nesting}
 use Rattle.lsys_expr.specs.Scanning.{IsSeenWithin, IsTokenOutcome, IsEnded}
 use Rattle.lsys_expr.specs.Scanned.{IsExtent, IsEndPlace}
 use Rattle.lsys_expr.proofs.Seen.{seen-depth}
 
 -- the first i tokens are read, and the rest decides
-pub record Reached (ks : List Kind) (i : ℕ) (a : Awaited) (ls : List Level) : Type 0 where
+pub record Reached (ks : List Kind) (i : ℕ) (a : Awaited) (ls : List OpenLevel) : Type 0 where
   pub state : m.ExpressionState
   pub kept : IsSeenWithin a ls state
   pub rest : extent ks ≡ extent_from i state (drop i ks)
 
 -- The token at the place, and what it makes of the extent.
-module _ (ks : List Kind) (i : ℕ) (k : Kind) (a : Awaited) (ls : List Level) (r : Reached ks i a ls) (q : drop i ks ≡ k ∷ drop (i + 1) ks) where
+module _ (ks : List Kind) (i : ℕ) (k : Kind) (a : Awaited) (ls : List OpenLevel) (r : Reached ks i a ls) (q : drop i ks ≡ k ∷ drop (i + 1) ks) where
   abbrev next : m.ExpressionState
   next = m.step r.state (small k)
 
   at-place : extent ks ≡ extent_behind i r.state next (extent_from (i + 1) next (drop (i + 1) ks))
   at-place = r.rest ∙ ap (extent_from i r.state) q
 
-  pub reached-next : (b : Awaited) (more : List Level) → IsTokenOutcome b more Goes r.state next → Reached ks (i + 1) b more
+  pub reached-next : (b : Awaited) (more : List OpenLevel) → IsTokenOutcome b more Goes r.state next → Reached ks (i + 1) b more
   reached-next b more h =
       let d : IsGoing next × (depth next ≡ inner_nesting more) = seen-depth b more next h.0 in
       record { state = next; kept = h; rest = at-place ∙ within-rest i (extent_from (i + 1) next (drop (i + 1) ks)) r.state next (omega (arith, d.1, h.1)) d.0 }
 
-  pub reached-ends : (b : Awaited) (more : List Level) → IsTokenOutcome b more Ends r.state next → IsExtent 0 (extent ks) (Ok i)
+  pub reached-ends : (b : Awaited) (more : List OpenLevel) → IsTokenOutcome b more Ends r.state next → IsExtent 0 (extent ks) (Ok i)
   reached-ends b more h = subst (λ x. IsExtent 0 x (Ok i)) (sym (at-place ∙ h.1 i (extent_from (i + 1) next (drop (i + 1) ks)))) (omega arith)
 
-  pub reached-stops : (b : Awaited) (more : List Level) → IsTokenOutcome b more Stops r.state next → IsExtent 0 (extent ks) (Err (Token i))
+  pub reached-stops : (b : Awaited) (more : List OpenLevel) → IsTokenOutcome b more Stops r.state next → IsExtent 0 (extent ks) (Err (Token i))
   reached-stops b more h = subst (λ x. IsExtent 0 x (Err (Token i))) (sym (at-place ∙ h i (extent_from (i + 1) next (drop (i + 1) ks)))) (omega arith)
 
-  pub reached-deep : (b : Awaited) (more : List Level) → IsTokenOutcome b more TooDeep r.state next → IsExtent 0 (extent ks) (Err (Deep i))
+  pub reached-deep : (b : Awaited) (more : List OpenLevel) → IsTokenOutcome b more TooDeep r.state next → IsExtent 0 (extent ks) (Err (Deep i))
   reached-deep b more h =
       let d : IsGoing next × (depth next ≡ inner_nesting h.1) = seen-depth h.0 h.1 next h.2 in
       subst (λ x. IsExtent 0 x (Err (Deep i))) (sym (at-place ∙ behind-deep i (extent_from (i + 1) next (drop (i + 1) ks)) r.state next (omega (arith, d.1, h.3)) d.0)) (omega arith)
 
 -- the end of the tokens
-pub reached-whole : (ks : List Kind) (i : ℕ) (a : Awaited) (ls : List Level) (r : Reached ks i a ls) → drop i ks ≡ [] → IsEnded true (m.end_step r.state) → IsExtent 0 (extent ks) (Ok i)
+pub reached-whole : (ks : List Kind) (i : ℕ) (a : Awaited) (ls : List OpenLevel) (r : Reached ks i a ls) → drop i ks ≡ [] → IsEnded true (m.end_step r.state) → IsExtent 0 (extent ks) (Ok i)
 reached-whole ks i a ls r q h = subst (λ x. IsExtent 0 x (Ok i)) (sym (r.rest ∙ ap (extent_from i r.state) q ∙ ap (at_end i) h.1)) (omega arith)
 
-pub reached-early : (ks : List Kind) (i : ℕ) (a : Awaited) (ls : List Level) (r : Reached ks i a ls) → drop i ks ≡ [] → IsEnded false (m.end_step r.state) → IsExtent 0 (extent ks) (Err (Token i))
+pub reached-early : (ks : List Kind) (i : ℕ) (a : Awaited) (ls : List OpenLevel) (r : Reached ks i a ls) → drop i ks ≡ [] → IsEnded false (m.end_step r.state) → IsExtent 0 (extent ks) (Err (Token i))
 reached-early ks i a ls r q h = subst (λ x. IsExtent 0 x (Err (Token i))) (sym (r.rest ∙ ap (extent_from i r.state) q ∙ ap (at_end i) h)) (omega arith)
 
 -- each place counted from another token

@@ -1,11 +1,11 @@
 -- How the levels are kept.
 use Rattle.std.specs.Prelude.{◌≡◌, ◌+◌, ◌≤◌, List, ◌∷◌, drop, length}
-use Rattle.lsys_expr.specs.declared.levels.Level.{Level}
-use Rattle.lsys_expr.specs.declared.levels.Levels.TheInside.{Inside}
+use Rattle.lsys_expr.specs.declared.levels.OpenLevel.{OpenLevel}
+use Rattle.lsys_expr.specs.declared.levels.OpenLevels.TheInside.{Inside}
 use Rattle.lsys_expr.specs.Levels.{outer_nesting}
 
 -- the innermost, and the last ones of the array
-abbrev pub inside_levels : Inside → List Level
+abbrev pub inside_levels : Inside → List OpenLevel
 inside_levels a = a.innermost ∷ drop a.first a.outer
 
 -- the array has room for all that may be open, which is counted

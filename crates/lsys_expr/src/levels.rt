@@ -9,15 +9,15 @@ pub(crate) const MOST_OPEN: u8 = 32;
 
 /// What was read after a parenthesis, or from the start, of what isn't closed yet.
 #[derive(Clone, Copy)]
-pub(crate) struct Level {
+pub(crate) struct OpenLevel {
     /// How many of prefix `-`, prefix `!` and `^` wait for the end of their operand.
     pub(crate) prefixes: u8,
     /// Whether the operand is on the right of a comparison.
     pub(crate) compared: bool,
 }
 
-impl Level {
-    const FRESH: Level = Level {
+impl OpenLevel {
+    const FRESH: OpenLevel = OpenLevel {
         prefixes: 0,
         compared: false,
     };
@@ -25,18 +25,18 @@ impl Level {
 
 /// The levels from the innermost to the outermost.
 #[derive(Drop)]
-pub(crate) struct Levels {
-    innermost: Level,
-    outer: [Level; 32],
+pub(crate) struct OpenLevels {
+    innermost: OpenLevel,
+    outer: [OpenLevel; 32],
     first: usize,
     open: u8,
 }
 
-impl Model for Levels {
+impl Model for OpenLevels {
     ghost use Rattle.std.specs.Prelude.{List};
-    ghost use Rattle.lsys_expr.specs.declared.levels.Level.{Level};
+    ghost use Rattle.lsys_expr.specs.declared.levels.OpenLevel.{OpenLevel};
 
-    ghost Value = { List Level };
+    ghost Value = { List OpenLevel };
 
     ghost use Rattle.lsys_expr.specs.InsideLevels.{inside_levels, CountsOpen};
 
@@ -45,15 +45,15 @@ impl Model for Levels {
     ghost invariant = { CountsOpen };
 }
 
-impl Levels {
+impl OpenLevels {
     /// The outermost level alone.
-    pub(crate) fn new() -> Levels
+    pub(crate) fn new() -> OpenLevels
         ensures levels { result ≡ fresh ∷ [] }
         ensures within { inner_nesting result ≤ 32 }
     {
-        Levels {
-            innermost: Level::FRESH,
-            outer: [Level::FRESH; 32],
+        OpenLevels {
+            innermost: OpenLevel::FRESH,
+            outer: [OpenLevel::FRESH; 32],
             first: 32,
             open: 0,
         }
@@ -82,7 +82,7 @@ impl Levels {
     {
         self.first -= 1;
         self.outer[self.first] = self.innermost;
-        self.innermost = Level::FRESH;
+        self.innermost = OpenLevel::FRESH;
         self.open += 1;
     }
 

@@ -10,7 +10,7 @@ ghost use Rattle.lsys_expr.specs.Scanning.{IsSeenWithin, IsOpened};
 ghost use Rattle.lsys_expr.specs.Scanned.{IsExtent, IsEndPlace, place_answered};
 ghost use Rattle.lsys_expr.specs.ScanSteps.{TakesKind, GoesOnWith, GoesToOperand, IsWholeIf};
 
-use crate::levels::Levels;
+use crate::levels::OpenLevels;
 use crate::roles::{Begin, Follow, begin_of, follow_of};
 use lsys_text::{PlaceRefusal, Token, TokenKind};
 
@@ -34,10 +34,10 @@ pub fn scan_expr(tokens: &[Token], from: usize) -> Result<usize, PlaceRefusal>
     for (ahead, token) in tokens[from..].iter().enumerate() {
         let place = from + ahead;
         match scan.take(token.kind) {
-            Outcome::Goes => {}
-            Outcome::Ends => return Ok(place),
-            Outcome::Stops => return Err(PlaceRefusal::Token { place }),
-            Outcome::TooDeep => return Err(PlaceRefusal::Deep { place }),
+            TokenEffect::Goes => {}
+            TokenEffect::Ends => return Ok(place),
+            TokenEffect::Stops => return Err(PlaceRefusal::Token { place }),
+            TokenEffect::TooDeep => return Err(PlaceRefusal::Deep { place }),
         }
     }
     if scan.is_whole() {
@@ -63,7 +63,7 @@ pub(crate) enum Awaited {
 
 /// What a token does.
 #[derive(Clone, Copy)]
-pub(crate) enum Outcome {
+pub(crate) enum TokenEffect {
     /// The expression goes on with it.
     Goes,
     /// The expression is whole before it.
@@ -78,7 +78,7 @@ pub(crate) enum Outcome {
 #[derive(Drop)]
 pub(crate) struct Scan {
     awaited: Awaited,
-    levels: Levels,
+    levels: OpenLevels,
 }
 
 impl Scan {
@@ -87,12 +87,12 @@ impl Scan {
     {
         Scan {
             awaited: Awaited::Operand,
-            levels: Levels::new(),
+            levels: OpenLevels::new(),
         }
     }
 
     // Goes on with a token.
-    fn take(&mut self, kind: TokenKind) -> Outcome
+    fn take(&mut self, kind: TokenKind) -> TokenEffect
         ensures { TakesKind kind self.old self.new result }
     {
         match self.awaited {
@@ -104,27 +104,27 @@ impl Scan {
     }
 
     // Goes on where an operand is due.
-    fn begin(&mut self, begin: Begin) -> Outcome
+    fn begin(&mut self, begin: Begin) -> TokenEffect
         requires { self.old.awaited ≡ Awaited.Operand }
         ensures { GoesOnWith (BeginsAs begin) self.old self.new result }
     {
         match begin {
             Begin::Whole => {
                 self.awaited = Awaited::Operator;
-                Outcome::Goes
+                TokenEffect::Goes
             }
-            Begin::Parenthesis if self.levels.is_full() => Outcome::TooDeep,
+            Begin::Parenthesis if self.levels.is_full() => TokenEffect::TooDeep,
             Begin::Parenthesis => {
                 self.levels.open_parenthesis();
-                Outcome::Goes
+                TokenEffect::Goes
             }
             Begin::Prefix => self.open_prefix(),
-            Begin::Nothing => Outcome::Stops,
+            Begin::Nothing => TokenEffect::Stops,
         }
     }
 
     // Goes on after an operand.
-    fn follow(&mut self, follow: Follow) -> Outcome
+    fn follow(&mut self, follow: Follow) -> TokenEffect
         requires { self.old.awaited ≡ Awaited.Operator }
         ensures { GoesOnWith (FollowsAs follow) self.old self.new result }
     {
@@ -149,54 +149,54 @@ impl Scan {
             }
             Follow::Closing if self.levels.is_inside() => {
                 self.levels.close_parenthesis();
-                Outcome::Goes
+                TokenEffect::Goes
             }
-            Follow::Closing => Outcome::Ends,
+            Follow::Closing => TokenEffect::Ends,
             Follow::Other => self.end(),
         }
     }
 
     // Does not go on after an operand.
-    fn end(&self) -> Outcome
-        ensures inside { is_inside self.now.levels ≡ true → result ≡ Outcome.Stops }
-        ensures outside { is_inside self.now.levels ≡ false → result ≡ Outcome.Ends }
+    fn end(&self) -> TokenEffect
+        ensures inside { is_inside self.now.levels ≡ true → result ≡ TokenEffect.Stops }
+        ensures outside { is_inside self.now.levels ≡ false → result ≡ TokenEffect.Ends }
     {
         if self.levels.is_inside() {
-            Outcome::Stops
+            TokenEffect::Stops
         } else {
-            Outcome::Ends
+            TokenEffect::Ends
         }
     }
 
     // Goes on after the first `&` or `|` of two.
-    fn second(&mut self, is_second: bool) -> Outcome
+    fn second(&mut self, is_second: bool) -> TokenEffect
         ensures yes { is_second ≡ true → GoesToOperand self.old self.new result }
-        ensures none { is_second ≡ false → result ≡ Outcome.Stops }
+        ensures none { is_second ≡ false → result ≡ TokenEffect.Stops }
     {
         if is_second {
             self.await_next(Awaited::Operand)
         } else {
-            Outcome::Stops
+            TokenEffect::Stops
         }
     }
 
     // Opens a prefix or a power, whose operand is due next.
-    fn open_prefix(&mut self) -> Outcome
+    fn open_prefix(&mut self) -> TokenEffect
         ensures { IsOpened self.old.levels self.new.awaited self.new.levels result }
     {
         if self.levels.is_full() {
-            return Outcome::TooDeep;
+            return TokenEffect::TooDeep;
         }
         self.levels.open_prefix();
         self.await_next(Awaited::Operand)
     }
 
-    fn await_next(&mut self, awaited: Awaited) -> Outcome
-        ensures goes { result ≡ Outcome.Goes }
+    fn await_next(&mut self, awaited: Awaited) -> TokenEffect
+        ensures goes { result ≡ TokenEffect.Goes }
         ensures next { self.new ≡ record { awaited = awaited; levels = self.old.levels } }
     {
         self.awaited = awaited;
-        Outcome::Goes
+        TokenEffect::Goes
     }
 
     // Whether the tokens are a whole expression.

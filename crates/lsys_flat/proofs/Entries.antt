@@ -10,8 +10,8 @@ use Rattle.lsys_laws.specs.KeptQuestions.{where_grouped, question_here}
 use Rattle.lsys_flat.proofs.Naming.{drop_there}
 use Rattle.lsys_match.specs.declared.refusal.AskRefusal.{AskRefusal}
 use Rattle.lsys_match.specs.declared.refusal.AskRefusal.TheVariants as refusals
-use Rattle.lsys_flat.specs.declared.found.Found.{Found}
-use Rattle.lsys_flat.specs.declared.found.Found.TheVariants as found
+use Rattle.lsys_flat.specs.declared.found.SymbolAnswer.{SymbolAnswer}
+use Rattle.lsys_flat.specs.declared.found.SymbolAnswer.TheVariants as found
 use Rattle.lsys_flat.specs.Replaced.{IsAsked}
 use Rattle.lsys_flat.specs.Rounds.{entries_of, ReadsAtMost}
 
@@ -37,7 +37,7 @@ entries_here s t x p a e = ap (λ rest. entries_of (questions_from s t x p rest)
 
 -- what was asked, with its entries
 
-pub read_ok : {L : Type 0} (o : Option Question) (v w : ℕ) (f : Found L) → IsAsked o v w (Ok f) → w ≡ v + entries_if o
+pub read_ok : {L : Type 0} (o : Option Question) (v w : ℕ) (f : SymbolAnswer L) → IsAsked o v w (Ok f) → w ≡ v + entries_if o
 read_ok None v w found.Stays h = omega (arith, h)
 read_ok None v w found.Same h = absurd h
 read_ok None v w (found.New b) h = absurd h

@@ -20,7 +20,7 @@ use Rattle.lsys_rewrite.specs.Cutting.{symbol_stays, cutting_behind}
 use Rattle.lsys_flat.specs.declared.origin.Origin.{Origin}
 use Rattle.lsys_flat.proofs.Naming.{drop_there}
 use Rattle.lsys_flat.specs.Origins.{origin_number, IsChild, AreChildren}
-use Rattle.lsys_flat.specs.declared.numbers.Numbers.{Numbers}
+use Rattle.lsys_flat.specs.declared.numbers.ChildNumbers.{ChildNumbers}
 use Rattle.lsys_flat.specs.Counts.{origin_at, HasNumbered}
 use Rattle.lsys_flat.specs.Grown.{Grown, grown_by_symbol, where_room, with_child, with_children, cutting_behind_all, HasSymbols, HoldsCut, IsGrown}
 
@@ -230,12 +230,12 @@ pub all_added : (g : Numbering) (parent key n : ℕ) (before : List ℕ) (ss : L
 all_added g parent key n before ss now whole l e = ap (λ rest. with_children g parent key n before rest now) (sym (drop_all n ss l)) ∙ e
 
 -- the children that were added, and what is left to add
-pub record AreAdded (g : Numbering) (parent key : ℕ) (ss : List Symbol) (first : Grown) (place : ℕ) (numbers : Numbers) (made : Grown) : Type 0 where
+pub record AreAdded (g : Numbering) (parent key : ℕ) (ss : List Symbol) (first : Grown) (place : ℕ) (numbers : ChildNumbers) (made : Grown) : Type 0 where
   pub before : List ℕ
   pub behind : HasNumbered place before numbers
   pub told : with_children g parent key place before (drop place ss) made ≡ with_children g parent key 0 [] ss first
 
-pub one_added : (g : Numbering) (parent key : ℕ) (ss : List Symbol) (first : Grown) (place : ℕ) (numbers after : Numbers) (made now : Grown) (s : Symbol) (o : Origin) → AreAdded g parent key ss first place numbers made
+pub one_added : (g : Numbering) (parent key : ℕ) (ss : List Symbol) (first : Grown) (place : ℕ) (numbers after : ChildNumbers) (made now : Grown) (s : Symbol) (o : Origin) → AreAdded g parent key ss first place numbers made
     → slice_get ss place ≡ Some s → ((n : ℕ) (before : List ℕ) → HasNumbered n before numbers → o ≡ origin_at g parent n before (code_of (symbol_of s)))
     → ((n : ℕ) (before : List ℕ) → HasNumbered n before numbers → HasNumbered (n + 1) (code_of (symbol_of s) ∷ before) after) → now ≡ with_child o key s made → AreAdded g parent key ss first (place + 1) after now
 one_added g parent key ss first place numbers after made now s o h there origin behind child = record {
@@ -246,7 +246,7 @@ one_added g parent key ss first place numbers after made now s o h there origin 
       ∙ ap (λ rest. with_children g parent key place h.before rest made) (sym (drop_there ss place s there)) ∙ h.told;
 }
 
-pub small_origin : (g : Numbering) (parent key : ℕ) (ss : List Symbol) (first : Grown) (place : ℕ) (numbers : Numbers) (made : Grown) (s : Symbol) (o : Origin) → AreAdded g parent key ss first place numbers made → place < number_base
+pub small_origin : (g : Numbering) (parent key : ℕ) (ss : List Symbol) (first : Grown) (place : ℕ) (numbers : ChildNumbers) (made : Grown) (s : Symbol) (o : Origin) → AreAdded g parent key ss first place numbers made → place < number_base
     → ((n : ℕ) (before : List ℕ) → HasNumbered n before numbers → o ≡ origin_at g parent n before (code_of (symbol_of s))) → o.count < number_base
 small_origin g parent key ss first place numbers made s o h l origin =
     subst (λ o. o.count < number_base) (sym (origin place h.before h.behind)) (small_count g parent place h.before (code_of (symbol_of s)) h.behind.length l)

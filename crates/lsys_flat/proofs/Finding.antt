@@ -15,8 +15,8 @@ use Rattle.lsys_match.specs.Asks.{IsAnswer, IsMade, IsNamedAt, IsNew, by_definit
 use Rattle.lsys_match.specs.TagQuestions.{TagAnswer}
 use Rattle.lsys_match.specs.declared.answer.Answer.{Answer}
 use Rattle.lsys_match.specs.declared.refusal.AskRefusal.{AskRefusal}
-use Rattle.lsys_flat.specs.declared.found.Found.{Found}
-use Rattle.lsys_flat.specs.declared.found.Found.TheVariants as found
+use Rattle.lsys_flat.specs.declared.found.SymbolAnswer.{SymbolAnswer}
+use Rattle.lsys_flat.specs.declared.found.SymbolAnswer.TheVariants as found
 use Rattle.lsys_flat.specs.Replaced.{IsSymbolAt, IsAsked, IsRecalled}
 use Rattle.lsys_laws.specs.KeptQuestions.{question_here}
 use Rattle.lsys_flat.specs.Slots.{IsAnswerHere, IsFoundOut, slot_by_place, slot_where_told}

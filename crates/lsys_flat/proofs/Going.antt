@@ -25,8 +25,8 @@ use Rattle.lsys_match.specs.declared.refusal.AskRefusal.{AskRefusal}
 use Rattle.lsys_flat.specs.Grown.{IsGrown}
 use Rattle.lsys_flat.specs.Steps.{ReplacedTo, modules_up_to}
 use Rattle.lsys_flat.proofs.Stepping.{goes_on}
-use Rattle.lsys_flat.specs.declared.found.Found.{Found}
-use Rattle.lsys_flat.specs.declared.found.Found.TheVariants as found
+use Rattle.lsys_flat.specs.declared.found.SymbolAnswer.{SymbolAnswer}
+use Rattle.lsys_flat.specs.declared.found.SymbolAnswer.TheVariants as found
 use Rattle.lsys_flat.specs.Replaced.{IsSymbolAt, IsAsked, IsRecalled, IsReplaced, KeepsFound}
 use Rattle.lsys_laws.specs.KeptQuestions.{question_here}
 use Rattle.lsys_flat.specs.Slots.{IsFoundOut, slot_by_place, slot_where_told}
@@ -37,14 +37,14 @@ use Rattle.lsys_flat.proofs.News.{all_stay, stay_then, stay_kept, stay_new, told
 use Rattle.lsys_flat.proofs.Finding.{Recalls, found_stays, found_new, found_same, recalled_same, other_question}
 
 -- what replaces it
-pub string_here : {L : Type 0} (r : Result (List (S.Symbol ℤ)) Fault) (a : LevelSymbol) (old : Option Kept) (f : Found L) → IsReplaced r a old (Ok f) → r ≡ Ok (string_found (seen_by a) old f)
+pub string_here : {L : Type 0} (r : Result (List (S.Symbol ℤ)) Fault) (a : LevelSymbol) (old : Option Kept) (f : SymbolAnswer L) → IsReplaced r a old (Ok f) → r ≡ Ok (string_found (seen_by a) old f)
 string_here r a old found.Stays h = h ∙ ap (λ ys. Ok ys) (sym (alone_plain a))
 string_here r a None found.Same h = absurd h
 string_here r a (Some o) found.Same h = h
 string_here r a old (found.New b) h = h
 
 -- only modules have questions
-pub modules_here : {L : Type 0} (s : System) (t : ℕ) (x : List LevelSymbol) (p : ℕ) (a : LevelSymbol) (f : Found L) (v w n : ℕ) → IsAsked (question_here s t x p a) v w (Ok f) → n + modules_found (seen_by a) f ≡ modules_up_to a n
+pub modules_here : {L : Type 0} (s : System) (t : ℕ) (x : List LevelSymbol) (p : ℕ) (a : LevelSymbol) (f : SymbolAnswer L) (v w n : ℕ) → IsAsked (question_here s t x p a) v w (Ok f) → n + modules_found (seen_by a) f ≡ modules_up_to a n
 modules_here s t x p (levels.Push l) found.Stays v w n h = omega arith
 modules_here s t x p (levels.Push l) found.Same v w n h = absurd h
 modules_here s t x p (levels.Push l) (found.New b) v w n h = absurd h
@@ -55,7 +55,7 @@ modules_here s t x p (levels.Module l m) found.Stays v w n h = refl
 modules_here s t x p (levels.Module l m) found.Same v w n h = refl
 modules_here s t x p (levels.Module l m) (found.New b) v w n h = refl
 
-pub stay_found : {L : Type 0} (mid after : Store) (old : Option Kept) (f : Found L) → KeepsFound mid after old (Ok f) → StayMade mid after
+pub stay_found : {L : Type 0} (mid after : Store) (old : Option Kept) (f : SymbolAnswer L) → KeepsFound mid after old (Ok f) → StayMade mid after
 stay_found mid after old found.Stays h = subst (StayMade mid) (sym h) (all_stay mid)
 stay_found mid after old found.Same h = stay_kept mid after h
 stay_found mid after old (found.New b) h = stay_new mid after old b h
@@ -68,7 +68,7 @@ told_length : (s : Store) (slots : List (Option Kept)) → length (answers_told 
 told_length s [] = refl
 told_length s (o ∷ slots) = ap suc (told_length s slots)
 
-module _ {L : Type 0} (s : System) (t : ℕ) (row : List Spotted) (mates : List (Option ℕ)) (olds : List (Option Kept)) (begin mid after : Store) (v0 v w p : ℕ) (r after_r : Rounded) (old : Option Kept) (f : Found L)
+module _ {L : Type 0} (s : System) (t : ℕ) (row : List Spotted) (mates : List (Option ℕ)) (olds : List (Option Kept)) (begin mid after : Store) (v0 v w p : ℕ) (r after_r : Rounded) (old : Option Kept) (f : SymbolAnswer L)
     (naming : ℕ → List ℕ) (a : LevelSymbol)
     (here : IsSymbolAt naming s.seed row p a) (there : slice_get (level_by naming row) p ≡ Some a) (at : IsAt p r)
     (is_old : old ≡ slot_where_told olds (slot_by_place mates p)) (made : AreMadeAt begin olds) (new : AreNew begin mid r.fresh)
@@ -101,7 +101,7 @@ module _ {L : Type 0} (s : System) (t : ℕ) (row : List Spotted) (mates : List 
   found_here : IsFoundOut s t row p (question_here s t (level_by naming row) p a) (slot_by_place mates p) (slot_where_told (answers_told begin olds) (slot_by_place mates p)) (option_map (answer_in after) (fresh_found f)) (taken_found (slot_by_place mates p) f)
   found_here = by f asked store answered
     where
-      by : (f : Found L) → IsAsked (question_here s t (level_by naming row) p a) v w (Ok f) → KeepsFound mid after old (Ok f)
+      by : (f : SymbolAnswer L) → IsAsked (question_here s t (level_by naming row) p a) v w (Ok f) → KeepsFound mid after old (Ok f)
           → ((naming : ℕ → List ℕ) (tag : ℕ) (m : ModuleValue) → IsNamedAt naming s.seed row p tag m → IsRecalled naming (by_definition s t (level_by naming row) p (naming tag) m) after old (Ok f))
           → IsFoundOut s t row p (question_here s t (level_by naming row) p a) (slot_by_place mates p) (slot_where_told (answers_told begin olds) (slot_by_place mates p)) (option_map (answer_in after) (fresh_found f)) (taken_found (slot_by_place mates p) f)
       by found.Stays ask keeps recalls = found_stays s t row (level_by naming row) p a naming here L (slot_by_place mates p) (slot_where_told (answers_told begin olds) (slot_by_place mates p)) v w ask

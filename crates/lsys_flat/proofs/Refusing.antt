@@ -17,7 +17,7 @@ use Rattle.lsys_match.specs.declared.refusal.AskRefusal.TheVariants as asks
 use Rattle.lsys_rewrite.specs.declared.refusal.DeriveRefusal.TheVariants as refusals
 use Rattle.lsys_rewrite.specs.Faults.{fault_of}
 use Rattle.lsys_flat.proofs.Stepping.{faults}
-use Rattle.lsys_flat.specs.declared.found.Found.{Found}
+use Rattle.lsys_flat.specs.declared.found.SymbolAnswer.{SymbolAnswer}
 use Rattle.lsys_laws.specs.KeptQuestions.{question_here}
 use Rattle.lsys_flat.specs.Replaced.{IsAsked, IsReplaced}
 use Rattle.lsys_flat.specs.Rounds.{AskedTo, ReadsAtMost, IsNoRound, Rounded, entries_of, derive_refusal_at, inquiry}

@@ -13,7 +13,7 @@ use Rattle.lsys_match.specs.Asks.{IsNamedAt, by_definition}
 use Rattle.lsys_match.specs.TagQuestions.{TagAnswer}
 use Rattle.lsys_match.specs.declared.refusal.AskRefusal.{AskRefusal}
 use Rattle.lsys_rewrite.specs.declared.refusal.DeriveRefusal.{DeriveRefusal}
-use Rattle.lsys_flat.specs.declared.found.Found.{Found}
+use Rattle.lsys_flat.specs.declared.found.SymbolAnswer.{SymbolAnswer}
 use Rattle.lsys_flat.specs.Replaced.{IsSymbolAt, IsAsked, IsRecalled, IsReplaced, KeepsFound}
 use Rattle.lsys_laws.specs.KeptQuestions.{question_here}
 use Rattle.lsys_flat.specs.Slots.{slot_by_place, slot_where_told}
@@ -38,13 +38,13 @@ module _ (L : Type 0) (s : System) (t : ℕ) (row : List Spotted) (mates : List 
       (refused s t row x (answers_told begin olds) mates mid after r now v0 v w p h L at.0 old e at.1 (subst (λ x. IsReplaced {L = L} (replacement s t x p at.0) at.0 old (Err e)) is.string (replaced naming at.0 here))
       (subst (λ x. IsAsked {L = L} (question_here s t x p at.0) v w (Err e)) is.string (asked naming at.0 here)))
 
-  pub round_wanting : (f : Found L) → ((naming : ℕ → List ℕ) (a : LevelSymbol) → IsSymbolAt naming s.seed row p a → IsAsked (question_here s t (level_by naming row) p a) v w (Ok f)) → ReadsAtMost (entries_of (questions_at s t x)) v0 w
+  pub round_wanting : (f : SymbolAnswer L) → ((naming : ℕ → List ℕ) (a : LevelSymbol) → IsSymbolAt naming s.seed row p a → IsAsked (question_here s t (level_by naming row) p a) v w (Ok f)) → ReadsAtMost (entries_of (questions_at s t x)) v0 w
   round_wanting f asked =
       let here = symbol_there naming s.seed row x p at.0 is at.1 in
       let read = read_ok (question_here s t x p at.0) v w f (subst (λ x. IsAsked (question_here s t x p at.0) v w (Ok f)) is.string (asked naming at.0 here)) in
       bounded s t row x (answers_told begin olds) mates mid after r now v0 v w p h at.0 at.1 (omega (arith, read), omega (arith, read))
 
-  pub round_goes : (f : Found L) (opened : Rounded) → IsAt p r → opened ≡ record r { fresh = r.fresh ++ None ∷ []; taken = r.taken ++ None ∷ [] } → old ≡ slot_where_told olds (slot_by_place mates p) → AreMadeAt begin olds → AreNew begin mid r.fresh
+  pub round_goes : (f : SymbolAnswer L) (opened : Rounded) → IsAt p r → opened ≡ record r { fresh = r.fresh ++ None ∷ []; taken = r.taken ++ None ∷ [] } → old ≡ slot_where_told olds (slot_by_place mates p) → AreMadeAt begin olds → AreNew begin mid r.fresh
       → ((naming : ℕ → List ℕ) (a : LevelSymbol) → IsSymbolAt naming s.seed row p a → IsReplaced (replacement s t (level_by naming row) p a) a old (Ok f))
       → ((naming : ℕ → List ℕ) (tag : ℕ) (m : ModuleValue) → IsNamedAt naming s.seed row p tag m → IsRecalled naming (by_definition s t (level_by naming row) p (naming tag) m) after old (Ok f))
       → ((naming : ℕ → List ℕ) (a : LevelSymbol) → IsSymbolAt naming s.seed row p a → IsAsked (question_here s t (level_by naming row) p a) v w (Ok f)) → KeepsFound mid after old (Ok f)

@@ -21,8 +21,8 @@ use Rattle.lsys_match.specs.declared.answer.Answer.{Answer}
 use Rattle.lsys_match.specs.declared.refusal.AskRefusal.{AskRefusal}
 use Rattle.lsys_flat.specs.Grown.{Making}
 use Rattle.lsys_flat.proofs.Short.{replacement_short}
-use Rattle.lsys_flat.specs.declared.found.Found.{Found}
-use Rattle.lsys_flat.specs.declared.found.Found.TheVariants as found
+use Rattle.lsys_flat.specs.declared.found.SymbolAnswer.{SymbolAnswer}
+use Rattle.lsys_flat.specs.declared.found.SymbolAnswer.TheVariants as found
 use Rattle.lsys_flat.specs.Replaced.{IsSymbolAt, IsReplaced, KeepsFound, found_news}
 use Rattle.lsys_flat.specs.Slots.{filled_slots, slot_by_place, slot_where_told}
 use Rattle.lsys_flat.specs.Rounds.{AreNew, CanAsk, HasOld, IsAt, ShowsLevel, Rounded, StayMade, fresh_found, modules_found, seen_modules, questions_found, settled, string_found, taken_found}
@@ -32,21 +32,21 @@ use Rattle.lsys_flat.proofs.Going.{string_here}
 
 -- 1. new answers
 
-pub new_found : (L : Type 0) (begin mid after : Store) (fresh fresh_now : List (Option Kept)) (p : ℕ) (old : Option Kept) (f : Found L) → length fresh ≡ p → KeepsFound mid after old (Ok f) → fresh_now ≡ set (fresh ++ None ∷ []) p (fresh_found f)
+pub new_found : (L : Type 0) (begin mid after : Store) (fresh fresh_now : List (Option Kept)) (p : ℕ) (old : Option Kept) (f : SymbolAnswer L) → length fresh ≡ p → KeepsFound mid after old (Ok f) → fresh_now ≡ set (fresh ++ None ∷ []) p (fresh_found f)
     → AreNew begin mid fresh → AreNew begin after fresh_now
 new_found L begin mid after fresh fresh_now p old f n keeps is h = subst (AreNew begin after) (sym (is ∙ set_last fresh (fresh_found f) p n)) (by f keeps)
   where
-    by : (f : Found L) → KeepsFound mid after old (Ok f) → AreNew begin after (fresh ++ fresh_found f ∷ [])
+    by : (f : SymbolAnswer L) → KeepsFound mid after old (Ok f) → AreNew begin after (fresh ++ fresh_found f ∷ [])
     by found.Stays k = none_more begin after fresh (none_new begin mid after fresh (subst (StayMade mid) (sym k) (all_stay mid)) h)
     by found.Same k = none_more begin after fresh (none_new begin mid after fresh (stay_kept mid after k) h)
     by (found.New b) k = one_new begin mid after fresh old b k h
 
-one_filled : (L : Type 0) (f : Found L) → filled_slots (fresh_found f ∷ []) ≡ found_news {L = L} (Ok f)
+one_filled : (L : Type 0) (f : SymbolAnswer L) → filled_slots (fresh_found f ∷ []) ≡ found_news {L = L} (Ok f)
 one_filled L found.Stays = refl
 one_filled L found.Same = refl
 one_filled L (found.New b) = refl
 
-pub asked_found : (L : Type 0) (fresh fresh_now : List (Option Kept)) (p v w : ℕ) (f : Found L) → length fresh ≡ p → fresh_now ≡ set (fresh ++ None ∷ []) p (fresh_found f) → w ≡ v + found_news {L = L} (Ok f)
+pub asked_found : (L : Type 0) (fresh fresh_now : List (Option Kept)) (p v w : ℕ) (f : SymbolAnswer L) → length fresh ≡ p → fresh_now ≡ set (fresh ++ None ∷ []) p (fresh_found f) → w ≡ v + found_news {L = L} (Ok f)
     → w + filled_slots fresh ≡ v + filled_slots fresh_now
 asked_found L fresh fresh_now p v w f n is e =
     let more = ap filled_slots (is ∙ set_last fresh (fresh_found f) p n) ∙ filled_more fresh (fresh_found f) in
@@ -55,26 +55,26 @@ asked_found L fresh fresh_now p v w f n is e =
 
 -- 2. places
 
-modules_most : (L : Type 0) (e : Seen) (f : Found L) → modules_found e f ≤ 1
+modules_most : (L : Type 0) (e : Seen) (f : SymbolAnswer L) → modules_found e f ≤ 1
 modules_most L Push found.Stays = omega arith
 modules_most L Pop found.Stays = omega arith
 modules_most L (Module m) found.Stays = omega arith
 modules_most L e found.Same = omega arith
 modules_most L e (found.New b) = omega arith
 
-questions_filled : (L : Type 0) (olds : List (Option Kept)) (mate : Option ℕ) (old : Option Kept) (f : Found L) → old ≡ slot_where_told olds mate → HasOld old f → questions_found f ≡ filled_slots (fresh_found f ∷ []) + filled_slots (taken_found mate f ∷ [])
+questions_filled : (L : Type 0) (olds : List (Option Kept)) (mate : Option ℕ) (old : Option Kept) (f : SymbolAnswer L) → old ≡ slot_where_told olds mate → HasOld old f → questions_found f ≡ filled_slots (fresh_found f ∷ []) + filled_slots (taken_found mate f ∷ [])
 questions_filled L olds mate old found.Stays is h = refl
 questions_filled L olds None None found.Same is h = absurd h
 questions_filled L olds None (Some o) found.Same is h = cc
 questions_filled L olds (Some j) old found.Same is h = refl
 questions_filled L olds mate old (found.New b) is h = refl
 
-questions_most : (L : Type 0) (f : Found L) → questions_found f ≤ 1
+questions_most : (L : Type 0) (f : SymbolAnswer L) → questions_found f ≤ 1
 questions_most L found.Stays = omega arith
 questions_most L found.Same = omega arith
 questions_most L (found.New b) = omega arith
 
-pub at_next : (L : Type 0) (p : ℕ) (e : Seen) (olds : List (Option Kept)) (mate : Option ℕ) (old : Option Kept) (f : Found L) (next : Making) (r opened now : Rounded) → IsAt p r → opened ≡ record r { fresh = r.fresh ++ None ∷ []; taken = r.taken ++ None ∷ [] }
+pub at_next : (L : Type 0) (p : ℕ) (e : Seen) (olds : List (Option Kept)) (mate : Option ℕ) (old : Option Kept) (f : SymbolAnswer L) (next : Making) (r opened now : Rounded) → IsAt p r → opened ≡ record r { fresh = r.fresh ++ None ∷ []; taken = r.taken ++ None ∷ [] }
     → now ≡ settled p e mate f next opened → next.grown.parents ≡ r.next.grown.parents + 1 → old ≡ slot_where_told olds mate → HasOld old f → IsAt (p + 1) now
 at_next L p e olds mate old f next r opened now at is_opened is parents is_old has = subst (IsAt (p + 1)) (sym (is ∙ ap (settled p e mate f next) is_opened)) (record {
   each_fresh = ap length fresh ∙ length_push r.fresh (fresh_found f) ∙ ap (λ n. n + 1) at.each_fresh;
@@ -116,7 +116,7 @@ stands_here s row mates p b h e l =
 string_short : (n : ℕ) (s : System) (t : ℕ) (x : List LevelSymbol) (p : ℕ) (a : LevelSymbol) (ys : List (S.Symbol ℤ)) → WellFormed s → replacement s t x p a ≡ Ok ys → length ys ≤ number_base
 string_short n s t x p a ys w h = let short = replacement_short s w t x p a ys h in omega (arith, short)
 
-pub has_old : (L : Type 0) (r : Result (List (S.Symbol ℤ)) Fault) (a : LevelSymbol) (old : Option Kept) (f : Found L) → IsReplaced r a old (Ok f) → HasOld old f
+pub has_old : (L : Type 0) (r : Result (List (S.Symbol ℤ)) Fault) (a : LevelSymbol) (old : Option Kept) (f : SymbolAnswer L) → IsReplaced r a old (Ok f) → HasOld old f
 has_old L r a None found.Same h = absurd h
 has_old L r a (Some o) found.Same h = tt
 has_old L r a None found.Stays h = tt
@@ -124,7 +124,7 @@ has_old L r a (Some o) found.Stays h = tt
 has_old L r a None (found.New b) h = tt
 has_old L r a (Some o) (found.New b) h = tt
 
-pub short_found : (L : Type 0) (s : System) (t : ℕ) (x : List LevelSymbol) (p : ℕ) (a : LevelSymbol) (e : Seen) (old : Option Kept) (f : Found L) → WellFormed s → e ≡ seen_by a → IsReplaced (replacement s t x p a) a old (Ok f) → length (string_found e old f) ≤ number_base
+pub short_found : (L : Type 0) (s : System) (t : ℕ) (x : List LevelSymbol) (p : ℕ) (a : LevelSymbol) (e : Seen) (old : Option Kept) (f : SymbolAnswer L) → WellFormed s → e ≡ seen_by a → IsReplaced (replacement s t x p a) a old (Ok f) → length (string_found e old f) ≤ number_base
 short_found L s t x p a e old f w is h =
     subst (λ e. length (string_found e old f) ≤ number_base) (sym is) (string_short 0 s t x p a (string_found (seen_by a) old f) w (string_here (replacement s t x p a) a old f h))
 
@@ -132,12 +132,12 @@ pub string_length : (xs : List Code) → length (string_of xs) ≡ length xs
 string_length [] = refl
 string_length (x ∷ xs) = ap suc (string_length xs)
 
-pub short_same : (L : Type 0) (n : ℕ) (e : Seen) (old : Option Kept) (o : Kept) (f : Found L) → f ≡ found.Same → old ≡ Some o → length (string_found e old f) ≤ n → length o.successor ≤ n
+pub short_same : (L : Type 0) (n : ℕ) (e : Seen) (old : Option Kept) (o : Kept) (f : SymbolAnswer L) → f ≡ found.Same → old ≡ Some o → length (string_found e old f) ≤ n → length o.successor ≤ n
 short_same L n e old o f is there h =
-    let one : length (string_of o.successor) ≤ n = subst (λ (old : Option Kept). length (string_found {L = L} e old found.Same) ≤ n) there (subst (λ (f : Found L). length (string_found e old f) ≤ n) is h) in
+    let one : length (string_of o.successor) ≤ n = subst (λ (old : Option Kept). length (string_found {L = L} e old found.Same) ≤ n) there (subst (λ (f : SymbolAnswer L). length (string_found e old f) ≤ n) is h) in
     omega (arith, one, string_length o.successor)
 
-pub short_new : (L : Type 0) (n : ℕ) (e : Seen) (old : Option Kept) (b : Answer L) (f : Found L) → f ≡ found.New b → length (string_found e old f) ≤ n → length b.successor ≤ n
+pub short_new : (L : Type 0) (n : ℕ) (e : Seen) (old : Option Kept) (b : Answer L) (f : SymbolAnswer L) → f ≡ found.New b → length (string_found e old f) ≤ n → length b.successor ≤ n
 short_new L n e old b f is h =
-    let one : length (string_of b.successor) ≤ n = subst (λ (f : Found L). length (string_found e old f) ≤ n) is h in
+    let one : length (string_of b.successor) ≤ n = subst (λ (f : SymbolAnswer L). length (string_found e old f) ≤ n) is h in
     omega (arith, one, string_length b.successor)

@@ -14,7 +14,7 @@ use Rattle.lsys_match.specs.declared.refusal.AskRefusal.{AskRefusal}
 use Rattle.lsys_rewrite.specs.declared.refusal.DeriveRefusal.{DeriveRefusal}
 use Rattle.lsys_laws.specs.KeptQuestions.{question_here}
 use Rattle.lsys_flat.specs.declared.beside.Beside.{Beside}
-use Rattle.lsys_flat.specs.declared.found.Found.{Found}
+use Rattle.lsys_flat.specs.declared.found.SymbolAnswer.{SymbolAnswer}
 use Rattle.lsys_flat.specs.Slots.{slot_by_place, slot_where_told}
 use Rattle.lsys_flat.specs.Replaced.{IsAsked, IsRecalled, IsReplaced, IsSymbolAt}
 use Rattle.lsys_flat.specs.Rounds.{Inquiry, Rounded, Replaces, AreMadeAt, AreNew, AskedTo, CanAsk, IsRound, ShowsLevel, answers_told, inquiry, settled, string_found}
@@ -43,19 +43,19 @@ inquiry_beside store b x = inquiry b.system.now b.level (row_beside b) x (answer
 -- 2. one symbol, by every naming of the tags that makes a level of what is seen
 
 -- what replaces the symbol at place p is what the definitions say
-abbrev pub IsReplacedBeside : {L : Type 0} → Beside L → ℕ → Option (Bor Kept) → Result (Found L) AskRefusal → Type 0
+abbrev pub IsReplacedBeside : {L : Type 0} → Beside L → ℕ → Option (Bor Kept) → Result (SymbolAnswer L) AskRefusal → Type 0
 IsReplacedBeside b p old result =
     (naming : ℕ → List ℕ) (a : LevelSymbol) → IsSymbolAt naming b.system.now.seed (row_beside b) p a
     → IsReplaced (replacement b.system.now b.level (level_by naming (row_beside b)) p a) a (kept_lent old) result
 
 -- so is the answer
-abbrev pub IsRecalledBeside : {L : Type 0} → Beside L → ℕ → Option (Bor Kept) → Store → Result (Found L) AskRefusal → Type 0
+abbrev pub IsRecalledBeside : {L : Type 0} → Beside L → ℕ → Option (Bor Kept) → Store → Result (SymbolAnswer L) AskRefusal → Type 0
 IsRecalledBeside b p old store result =
     (naming : ℕ → List ℕ) (tag : ℕ) (m : ModuleValue) → IsNamedAt naming b.system.now.seed (row_beside b) p tag m
     → IsRecalled naming (by_definition b.system.now b.level (level_by naming (row_beside b)) p (naming tag) m) store (kept_lent old) result
 
 -- and so many entries are read as the question's trace has
-abbrev pub IsReadBeside : {L : Type 0} → Beside L → ℕ → Lent ℕ → Result (Found L) AskRefusal → Type 0
+abbrev pub IsReadBeside : {L : Type 0} → Beside L → ℕ → Lent ℕ → Result (SymbolAnswer L) AskRefusal → Type 0
 IsReadBeside b p visited result =
     (naming : ℕ → List ℕ) (a : LevelSymbol) → IsSymbolAt naming b.system.now.seed (row_beside b) p a
     → IsAsked (question_here b.system.now b.level (level_by naming (row_beside b)) p a) visited.entry.now visited.exit.now result
@@ -63,7 +63,7 @@ IsReadBeside b p visited result =
 -- 3. what is found out about it
 
 -- what replaces it has fewer symbols than numbers have
-abbrev pub IsShortBeside : {L : Type 0} → Beside L → ℕ → Option (Bor Kept) → Found L → Type 0
+abbrev pub IsShortBeside : {L : Type 0} → Beside L → ℕ → Option (Bor Kept) → SymbolAnswer L → Type 0
 IsShortBeside b p old found = (a : Spotted) → spotted_at b.view.now b.level p ≡ Some a → length (string_found a.seen (kept_lent old) found) ≤ number_base
 
 -- these symbols replaced the next symbol
@@ -71,12 +71,12 @@ abbrev pub ReplacesNext : ℕ → List (S.Symbol ℤ) → Lent Rounded → Type 
 ReplacesNext key ys round = Replaces key ys round.entry.now.next round.exit.now.next
 
 -- what was found out replaced it
-abbrev pub ReplacesBeside : {L A E : Type 0} → Beside L → ℕ → Option (Bor Kept) → Found L → Lent Rounded → Result A E → Type 0
+abbrev pub ReplacesBeside : {L A E : Type 0} → Beside L → ℕ → Option (Bor Kept) → SymbolAnswer L → Lent Rounded → Result A E → Type 0
 ReplacesBeside b p old found round result =
     (a : Spotted) → spotted_at b.view.now b.level p ≡ Some a → OnOk result (ReplacesNext a.key (string_found a.seen (kept_lent old) found) round)
 
 -- and is kept of it
-abbrev pub SettlesBeside : {L A E : Type 0} → Beside L → ℕ → Found L → Lent Rounded → Result A E → Type 0
+abbrev pub SettlesBeside : {L A E : Type 0} → Beside L → ℕ → SymbolAnswer L → Lent Rounded → Result A E → Type 0
 SettlesBeside b p found round result =
     (a : Spotted) → spotted_at b.view.now b.level p ≡ Some a
     → OnOk result (round.exit.now ≡ settled p a.seen (slot_by_place b.mates.now p) found round.exit.now.next round.entry.now)

@@ -18,7 +18,7 @@ use Rattle.lsys_flat.specs.declared.origin.Origin.{Origin}
 use Rattle.lsys_flat.specs.Origins.{origin_number, AreChildren}
 use Rattle.lsys_flat.specs.Counts.{origin_at}
 use Rattle.lsys_flat.specs.declared.level.Level.{Level}
-use Rattle.lsys_flat.specs.declared.numbers.Numbers.{Numbers}
+use Rattle.lsys_flat.specs.declared.numbers.ChildNumbers.{ChildNumbers}
 
 -- 1. by symbols
 
@@ -102,5 +102,5 @@ GrowsByChildren g key ys before after =
 abbrev pub AddsChildren : ℕ → List (S.Symbol ℤ) → Making → Making → Type 0
 AddsChildren key ys before after = GrowsByChildren before.numbering key ys before.grown after.grown
 
-abbrev pub AddsByNumbers : ℕ → List Symbol → Lent Numbers → Lent Grown → Type 0
+abbrev pub AddsByNumbers : ℕ → List Symbol → Lent ChildNumbers → Lent Grown → Type 0
 AddsByNumbers key successor numbers made = GrowsByChildren (numbering_of numbers.entry.now.numbering) key (string_of successor) made.entry.now made.exit.now

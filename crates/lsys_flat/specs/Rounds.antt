@@ -23,8 +23,8 @@ use Rattle.lsys_rewrite.specs.declared.refusal.DeriveRefusal.TheVariants as refu
 use Rattle.lsys_flat.specs.Grown.{Making, IsGrown, AddsChildren, nothing_made}
 use Rattle.lsys_flat.specs.Steps.{ReplacedTo}
 use Rattle.lsys_module.specs.Views.{string_of}
-use Rattle.lsys_flat.specs.declared.found.Found.{Found}
-use Rattle.lsys_flat.specs.declared.found.Found.TheVariants.{Stays, Same, New}
+use Rattle.lsys_flat.specs.declared.found.SymbolAnswer.{SymbolAnswer}
+use Rattle.lsys_flat.specs.declared.found.SymbolAnswer.TheVariants.{Stays, Same, New}
 use Rattle.lsys_laws.specs.KeptQuestions.{question_here}
 use Rattle.lsys_flat.specs.Slots.{IsFoundOut, filled_slots, slot_by_place, slot_where_told}
 
@@ -153,35 +153,35 @@ derive_refusal_at t n (asks.Fault k) = refusals.Fault k t (n + 1)
 derive_refusal_at t n asks.Memory = refusals.Memory
 
 -- what replaces a symbol of which this is seen, and of which this was found out beside the old answer
-abbrev pub string_found : {L : Type 0} → Seen → Option Kept → Found L → List (S.Symbol ℤ)
+abbrev pub string_found : {L : Type 0} → Seen → Option Kept → SymbolAnswer L → List (S.Symbol ℤ)
 string_found e old Stays = seen_alone e
 string_found e None Same = []
 string_found e (Some o) Same = string_of o.successor
 string_found e old (New b) = string_of b.successor
 
 -- where the question is that of the old answer, there is one
-abbrev pub HasOld : {L : Type 0} → Option Kept → Found L → Type 0
+abbrev pub HasOld : {L : Type 0} → Option Kept → SymbolAnswer L → Type 0
 HasOld None Same = ⊥
 HasOld (Some o) Same = Unit {0}
 HasOld old Stays = Unit {0}
 HasOld old (New b) = Unit {0}
 
-abbrev pub fresh_found : {L : Type 0} → Found L → Option Kept
+abbrev pub fresh_found : {L : Type 0} → SymbolAnswer L → Option Kept
 fresh_found Stays = None
 fresh_found Same = None
 fresh_found (New b) = Some b
 
-abbrev pub taken_found : {L : Type 0} → Option ℕ → Found L → Option ℕ
+abbrev pub taken_found : {L : Type 0} → Option ℕ → SymbolAnswer L → Option ℕ
 taken_found mate Stays = None
 taken_found mate Same = mate
 taken_found mate (New b) = None
 
-abbrev pub modules_found : {L : Type 0} → Seen → Found L → ℕ
+abbrev pub modules_found : {L : Type 0} → Seen → SymbolAnswer L → ℕ
 modules_found e Stays = seen_modules e
 modules_found e Same = 1
 modules_found e (New b) = 1
 
-abbrev pub questions_found : {L : Type 0} → Found L → ℕ
+abbrev pub questions_found : {L : Type 0} → SymbolAnswer L → ℕ
 questions_found Stays = 0
 questions_found Same = 1
 questions_found (New b) = 1
@@ -198,7 +198,7 @@ pub record AwaitsAnswer (p : ℕ) (r : Rounded) : Type 0 where
   pub few : p + 1 < 2 ^ 32
 
 -- what is kept of the symbol at place p of which this was found out
-abbrev pub settled : {L : Type 0} → ℕ → Seen → Option ℕ → Found L → Making → Rounded → Rounded
+abbrev pub settled : {L : Type 0} → ℕ → Seen → Option ℕ → SymbolAnswer L → Making → Rounded → Rounded
 settled p e mate f next r = record {
   next = next;
   fresh = set r.fresh p (fresh_found f);

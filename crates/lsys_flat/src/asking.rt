@@ -6,7 +6,7 @@ ghost use Rattle.lsys_flat.specs.Replaced.{KeepsFound, found_news, found_of};
 ghost use Rattle.lsys_flat.specs.Besides.{row_beside, IsReadBeside, IsRecalledBeside, IsReplacedBeside};
 
 use crate::beside::Beside;
-use crate::found::Found;
+use crate::found::SymbolAnswer;
 use lsys_level::FlatSpot;
 use lsys_match::{Answer, AnswerStore, AskRefusal, Asked, Asker, Steps};
 use std::alloc::Global;
@@ -27,7 +27,7 @@ pub(crate) fn ask_at<'a, L: Ledger, V: Ledger>(
     old: Option<&Answer<L>>,
     asked: &mut Steps<L>,
     visited: &mut Steps<V>,
-) -> Result<Found<L>, AskRefusal>
+) -> Result<SymbolAnswer<L>, AskRefusal>
     requires asker { asker.old ≡ asked_level beside.now.system.now beside.now.level }
     requires place { place < length (row_beside beside.now) }
     requires made { IsMadeIfAny store.old (kept_lent old) }
@@ -46,13 +46,15 @@ pub(crate) fn ask_at<'a, L: Ledger, V: Ledger>(
 }
 
 // What is found out by asking.
-fn found<L: Ledger>(answer: Result<Option<Asked<L>>, AskRefusal>) -> Result<Found<L>, AskRefusal>
+fn found<L: Ledger>(
+    answer: Result<Option<Asked<L>>, AskRefusal>,
+) -> Result<SymbolAnswer<L>, AskRefusal>
     ensures { result ≡ found_of answer }
 {
     match answer {
-        Ok(None) => Ok(Found::Stays),
-        Ok(Some(Asked::Same)) => Ok(Found::Same),
-        Ok(Some(Asked::New(answer))) => Ok(Found::New(answer)),
+        Ok(None) => Ok(SymbolAnswer::Stays),
+        Ok(Some(Asked::Same)) => Ok(SymbolAnswer::Same),
+        Ok(Some(Asked::New(answer))) => Ok(SymbolAnswer::New(answer)),
         Err(refusal) => Err(refusal),
     }
 }

@@ -47,7 +47,7 @@ pub use pairing::pair;
 pub use release::release_all;
 pub use revised::law_of_revisions;
 pub use revision::Revision;
-pub use round::{Asked, Round};
+pub use round::{LevelAnswers, Round};
 pub use steps::{law_of_meanings, law_of_next_levels, law_of_short_strings};
 pub use tags::TagSupply;
 pub use taking::take_over;

@@ -5,7 +5,7 @@ ghost use Rattle.lsys_flat.specs.Grown.{nothing_grown, where_room, with_child, A
 
 use crate::Origin;
 use crate::level::Level;
-use crate::numbers::Numbers;
+use crate::numbers::ChildNumbers;
 use lsys_draw::child_key;
 use lsys_module::{Symbol, SymbolList};
 use lsys_rewrite::{cutting_behind, stays};
@@ -69,7 +69,7 @@ impl Made {
     /// Out of memory. What was made is of no use then.
     pub(crate) fn add_children(
         &mut self,
-        numbers: &mut Numbers,
+        numbers: &mut ChildNumbers,
         key: u64,
         successor: &[Symbol],
     ) -> Result<(), AllocError>

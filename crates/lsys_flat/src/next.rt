@@ -7,7 +7,7 @@ ghost use Rattle.lsys_flat.specs.Grown.{nothing_made, AddsChildren, IsFinished};
 
 use crate::level::Level;
 use crate::made::Made;
-use crate::numbers::Numbers;
+use crate::numbers::ChildNumbers;
 use lsys_module::Symbol;
 use lsys_reading::Lineage;
 use std::alloc::{AllocError, Global};
@@ -16,7 +16,7 @@ use std::marker::Model;
 /// The level after a level, as far as the symbols of this one were replaced.
 #[derive(Drop)]
 pub struct NextLevel {
-    numbers: Numbers,
+    numbers: ChildNumbers,
     made: Made,
 }
 
@@ -35,7 +35,7 @@ impl NextLevel {
         ensures { result ≡ nothing_made (numbering_of numbering) room }
     {
         NextLevel {
-            numbers: Numbers::new(alloc, numbering),
+            numbers: ChildNumbers::new(alloc, numbering),
             made: Made::new(alloc, room),
         }
     }

@@ -10,7 +10,7 @@ use std::collections::HashMap;
 
 /// What tells the children of a symbol, one after another, from each other.
 #[derive(Drop)]
-pub(crate) struct Numbers {
+pub(crate) struct ChildNumbers {
     pub(crate) numbering: Lineage,
     // how many children there were
     pub(crate) children: u32,
@@ -18,12 +18,12 @@ pub(crate) struct Numbers {
     pub(crate) counts: HashMap<u64, u32>,
 }
 
-impl Numbers {
+impl ChildNumbers {
     /// Takes no memory.
-    pub(crate) fn new(alloc: Global, numbering: Lineage) -> Numbers
+    pub(crate) fn new(alloc: Global, numbering: Lineage) -> ChildNumbers
         ensures { result.numbering ≡ numbering }
     {
-        Numbers {
+        ChildNumbers {
             numbering,
             children: 0,
             counts: HashMap::new(alloc),

@@ -13,7 +13,7 @@ ghost use Rattle.lsys_flat.specs.Besides.{row_beside, AsksAll, AsksNext, CanAskB
 
 use crate::asking::ask_at;
 use crate::beside::Beside;
-use crate::found::Found;
+use crate::found::SymbolAnswer;
 use crate::{Level, NextLevel};
 use lsys_level::{FlatSpot, LevelView, Sight};
 use lsys_match::{Answer, AnswerStore, AskRefusal, Asker, Steps};
@@ -38,7 +38,7 @@ pub struct Round<L: Ledger> {
 /// What was found out about a level: the next level, where there was room for it; for each symbol its new answer, or the old
 /// place from which an answer is taken over; and how many questions there are.
 #[derive(Drop)]
-pub struct Asked<L: Ledger> {
+pub struct LevelAnswers<L: Ledger> {
     pub next: Option<Level>,
     pub fresh: Vec<Option<Answer<L>>>,
     pub taken: Vec<Option<u32>>,
@@ -111,13 +111,13 @@ impl<L: Ledger> Round<L> {
     }
 
     /// What was found out, with the next level where there was room for it.
-    pub fn finish(self) -> Asked<L>
+    pub fn finish(self) -> LevelAnswers<L>
         ensures next { IsFinished self.next.grown result.next }
         ensures fresh { result.fresh.items ≡ self.fresh }
         ensures taken { result.taken.items ≡ self.taken }
         ensures questions { result.questions ≡ self.questions }
     {
-        Asked {
+        LevelAnswers {
             next: self.next.finish(),
             fresh: self.fresh,
             taken: self.taken,
@@ -175,7 +175,7 @@ impl<L: Ledger> Round<L> {
         beside: &Beside<'_, L>,
         place: usize,
         old: Option<&Answer<L>>,
-        found: Found<L>,
+        found: SymbolAnswer<L>,
     ) -> Result<(), AllocError>
         requires opened { AwaitsAnswer place self.old }
         requires place { place < length (row_beside beside.now) }
@@ -192,12 +192,12 @@ impl<L: Ledger> Round<L> {
         };
         let key = beside.view.key(spot);
         match found {
-            Found::Stays => self.stay(key, beside.view.sight(spot)),
-            Found::Same => match old {
+            SymbolAnswer::Stays => self.stay(key, beside.view.sight(spot)),
+            SymbolAnswer::Same => match old {
                 Some(old) => self.take(place, key, beside.mates[place], old),
                 None => unreachable!(),
             },
-            Found::New(answer) => self.put(place, key, answer),
+            SymbolAnswer::New(answer) => self.put(place, key, answer),
         }
     }
 

@@ -7,8 +7,8 @@ use Rattle.lsys_spec.specs.Rows.{In, AreApart, first_in, mirrored}
 use Rattle.lsys_spec.specs.Levels.{close_of, AreMates, level_balanced}
 use Rattle.lsys_spec.specs.Levels as L
 use Rattle.lsys_level.specs.Spots.{Seen, Push, Pop, with_lineage, named}
-use Rattle.lsys_forest.specs.declared.node.Kind.{Kind}
-use Rattle.lsys_forest.specs.declared.node.Kind.TheVariants as kinds
+use Rattle.lsys_forest.specs.declared.node.NodeKind.{NodeKind}
+use Rattle.lsys_forest.specs.declared.node.NodeKind.TheVariants as kinds
 use Rattle.lsys_forest.specs.declared.walk.Way.{Way}
 use Rattle.lsys_forest.specs.declared.walk.Way.TheVariants.{Left, Right}
 use Rattle.lsys_forest.specs.Nodes.{Node, Nodes, seen_as}
@@ -103,7 +103,7 @@ none_first : (xs : List ℕ) → first_in xs ≡ None → xs ≡ []
 none_first [] e = refl
 none_first (x ∷ xs) e = absurd (none-some x (sym e))
 
-still_few : (way : Way) (kind : Kind) (inside still : ℕ) → nested way kind inside ≡ Some still → still ≤ inside + 1
+still_few : (way : Way) (kind : NodeKind) (inside still : ℕ) → nested way kind inside ≡ Some still → still ≤ inside + 1
 still_few Right kinds.Push inside still e = let f = same_Some (suc inside) still e in omega (arith, f)
 still_few Right kinds.Pop zero still e = absurd (none-some still e)
 still_few Right kinds.Pop (suc inside) still e = let f = same_Some inside still e in omega (arith, f)
@@ -131,7 +131,7 @@ way_size : (way : Way) (xs : List ℕ) → length (oriented way xs) ≡ length x
 way_size Right xs = refl
 way_size Left xs = mirror_size xs
 
-turned_kind : (way : Way) (kind : Kind) (params : List ℤ) (n : ℕ) → turned way (seen_as kind params) n ≡ nested way kind n
+turned_kind : (way : Way) (kind : NodeKind) (params : List ℤ) (n : ℕ) → turned way (seen_as kind params) n ≡ nested way kind n
 turned_kind Right kinds.Push params n = refl
 turned_kind Right kinds.Pop params n = refl
 turned_kind Right (kinds.Module name) params n = refl
@@ -206,7 +206,7 @@ module _ {A : Type 0} where
       }
 
   -- one symbol more was counted
-  counted : (way : Way) (m : Nodes A) (after : List ℕ) (node inside still : ℕ) (between : List ℕ) (q : ℕ) (ahead : List ℕ) (n : Node A) (kind : Kind) (params : List ℤ) → m q ≡ Some n → n.seen ≡ seen_as kind params → nested way kind inside ≡ Some still → Counts way m after node inside between (q ∷ ahead) → Counts way m after node still (between ++ q ∷ []) ahead
+  counted : (way : Way) (m : Nodes A) (after : List ℕ) (node inside still : ℕ) (between : List ℕ) (q : ℕ) (ahead : List ℕ) (n : Node A) (kind : NodeKind) (params : List ℤ) → m q ≡ Some n → n.seen ≡ seen_as kind params → nested way kind inside ≡ Some still → Counts way m after node inside between (q ∷ ahead) → Counts way m after node still (between ++ q ∷ []) ahead
   counted Right m after node inside still between q ahead n kinds.Push params is seen e count = λ naming.
       let long : length between + 1 ≡ length (between ++ q ∷ []) = sym (length_push between q) in
       count naming
@@ -252,7 +252,7 @@ module _ {A : Type 0} where
       ∙ ap (option_map (λ i. i + 1)) (count naming)
       ∙ ap Some long
 
-  pub walk_on : (way : Way) (m : Nodes A) (level : List ℕ) (node inside still q : ℕ) (next : Option ℕ) (n : Node A) (kind : Kind) (params : List ℤ) → m q ≡ Some n → n.seen ≡ seen_as kind params → nested way kind inside ≡ Some still → (w : IsMet way m level node inside q) → next ≡ first_in w.ahead → IsWalk way m level node still next
+  pub walk_on : (way : Way) (m : Nodes A) (level : List ℕ) (node inside still q : ℕ) (next : Option ℕ) (n : Node A) (kind : NodeKind) (params : List ℤ) → m q ≡ Some n → n.seen ≡ seen_as kind params → nested way kind inside ≡ Some still → (w : IsMet way m level node inside q) → next ≡ first_in w.ahead → IsWalk way m level node still next
   walk_on way m level node inside still q next n kind params is seen e w at = record {
     before = w.before;
     after = w.after;
@@ -278,7 +278,7 @@ module _ {A : Type 0} where
             ∙ ap (option_map (λ i. p + 1 + i)) closed ∙ ap Some (sym qe);
       }
 
-  pub walk_found : (way : Way) (m : Nodes A) (level : List ℕ) (node inside q : ℕ) (top n : Node A) (kind : Kind) (params : List ℤ) → AreApart level → m node ≡ Some top → IsBracketThat way (Some top) → m q ≡ Some n → n.seen ≡ seen_as kind params → nested way kind inside ≡ None → IsMet way m level node inside q → IsMateThat way m level node q
+  pub walk_found : (way : Way) (m : Nodes A) (level : List ℕ) (node inside q : ℕ) (top n : Node A) (kind : NodeKind) (params : List ℤ) → AreApart level → m node ≡ Some top → IsBracketThat way (Some top) → m q ≡ Some n → n.seen ≡ seen_as kind params → nested way kind inside ≡ None → IsMet way m level node inside q → IsMateThat way m level node q
   walk_found Right m level node inside q top n kinds.Push params apart top_is bracket is seen e w = absurd (none-some (suc inside) (sym e))
   walk_found Right m level node (suc inside) q top n kinds.Pop params apart top_is bracket is seen e w = absurd (none-some inside (sym e))
   walk_found Right m level node inside q top n (kinds.Module name) params apart top_is bracket is seen e w = absurd (none-some inside (sym e))
@@ -341,7 +341,7 @@ module _ {A : Type 0} where
   walk_started Right m level before after node at whole bracket is = refl
   walk_started Left m level before after node at whole bracket is = refl
 
-  walk_past : (way : Way) (m : Nodes A) (level : List ℕ) (node inside still q : ℕ) (at : Option ℕ) (n : Node A) (kind : Kind) (params : List ℤ) (rest : List ℕ) → m q ≡ Some n → n.seen ≡ seen_as kind params → nested way kind inside ≡ Some still → (w : IsWalk way m level node inside at) → w.ahead ≡ q ∷ rest → (x : IsWalk way m level node still (first_in rest)) × (x.ahead ≡ rest)
+  walk_past : (way : Way) (m : Nodes A) (level : List ℕ) (node inside still q : ℕ) (at : Option ℕ) (n : Node A) (kind : NodeKind) (params : List ℤ) (rest : List ℕ) → m q ≡ Some n → n.seen ≡ seen_as kind params → nested way kind inside ≡ Some still → (w : IsWalk way m level node inside at) → w.ahead ≡ q ∷ rest → (x : IsWalk way m level node still (first_in rest)) × (x.ahead ≡ rest)
   walk_past way m level node inside still q at n kind params rest is seen e w here = (
     record {
       before = w.before;
@@ -361,7 +361,7 @@ module _ {A : Type 0} where
   pub record IsOfKind (m : Nodes A) (q : ℕ) : Type 0 where
     pub node : Node A
     pub is : m q ≡ Some node
-    pub kind : Kind
+    pub kind : NodeKind
     pub params : List ℤ
     pub seen : node.seen ≡ seen_as kind params
 

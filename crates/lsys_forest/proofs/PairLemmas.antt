@@ -1,6 +1,6 @@
 -- Mates are found on a row from the left to the right.
-use Rattle.lsys_forest.specs.declared.node.Kind.{Kind}
-use Rattle.lsys_forest.specs.declared.node.Kind.TheVariants as kind
+use Rattle.lsys_forest.specs.declared.node.NodeKind.{NodeKind}
+use Rattle.lsys_forest.specs.declared.node.NodeKind.TheVariants as kind
 use Rattle.lsys_forest.specs.Nodes.{seen_as}
 use Rattle.std.proofs.Common.{◌≡◌, ◌≢◌, ℕ, zero, suc, List, [], ◌∷◌, ◌++◌, Option, Some, None, refl, sym, ap, ◌∙◌, arith, inl, inr, subst, ℤ}
 use Rattle.std.specs.Option.{option_and_then}
@@ -323,7 +323,7 @@ open_in seen passed footings opener k was e =
     oriented_In_back Left k passed (subst (In k) (sym b.whole) (In_right k b.inner (k ∷ b.rest) (inl refl)))
 
 -- the sort of a symbol is that of its kind, whatever its parameters
-pub sort_of : (k : Kind) (params params' : List ℤ) (s : Seen) → AreSameSort (seen_as k params) s → AreSameSort (seen_as k params') s
+pub sort_of : (k : NodeKind) (params params' : List ℤ) (s : Seen) → AreSameSort (seen_as k params) s → AreSameSort (seen_as k params') s
 sort_of kind.Push params params' s same = same
 sort_of kind.Pop params params' s same = same
 sort_of (kind.Module name) params params' Push same = same

@@ -5,7 +5,7 @@ use Rattle.std.specs.Prelude.{option_map}
 use Rattle.std.proofs.lemmas.Option.{none-some}
 use Rattle.slab.specs.Slab.{Slab}
 use Rattle.lsys_forest.specs.declared.node.Stored.{Stored}
-use Rattle.lsys_forest.specs.declared.node.Entry.{Entry}
+use Rattle.lsys_forest.specs.declared.node.NodeEntry.{NodeEntry}
 use Rattle.lsys_forest.specs.declared.note.Note.{Note}
 use Rattle.lsys_forest.specs.Shelves.{Hoard}
 use Rattle.lsys_forest.specs.Slots.{SlotTable, slot_at, node_in, param_run_in, kid_run_in, table_of}
@@ -18,11 +18,11 @@ empty [] h = refl
 empty (x ∷ xs) h = absurd (omega (arith, h))
 
 module _ {A : Type 0} where
-  no_entry : (e : Option (Entry A)) → node_in e ≡ None → e ≡ None
+  no_entry : (e : Option (NodeEntry A)) → node_in e ≡ None → e ≡ None
   no_entry None h = refl
   no_entry (Some e) h = absurd (none-some e.node (sym h))
 
-  pub none_vacant : (s : Slab (Entry A)) → HasNoVacantRuns (table_of s)
+  pub none_vacant : (s : Slab (NodeEntry A)) → HasNoVacantRuns (table_of s)
   none_vacant s = record {
     params = λ k h. part_at param_run_in s.slots k None ∙ ap param_run_in (no_entry (get_or s.slots k None) (sym (part_at node_in s.slots k None) ∙ h));
     kids = λ k h. part_at kid_run_in s.slots k None ∙ ap kid_run_in (no_entry (get_or s.slots k None) (sym (part_at node_in s.slots k None) ∙ h));

@@ -6,7 +6,7 @@ use Rattle.std.proofs.lemmas.Bool.{cases_eq}
 use Rattle.std.proofs.lemmas.Grind.{common_steps}
 use Rattle.std.proofs.lemmas.List.{append-nil}
 use Rattle.std.proofs.lemmas.Option.{none-some, same_Some}
-use Rattle.lsys_forest.specs.declared.node.Kind.{Kind}
+use Rattle.lsys_forest.specs.declared.node.NodeKind.{NodeKind}
 use Rattle.lsys_forest.specs.declared.node.Stored.{Stored}
 use Rattle.lsys_forest.specs.declared.note.Note.{Note}
 use Rattle.lsys_forest.specs.declared.note.Was.{Was}
@@ -191,13 +191,13 @@ module _ {A : Type 0} where
   pub kids_were : (slots : List (Option (Stored A))) (params : List (List ℤ)) (kids : List (List ℕ)) (k : ℕ) (n : Node A) → shown_nodes slots params kids k ≡ Some n → row_at kids k ≡ n.kids
   kids_were slots params kids k n is = let s = stored_of slots params kids k n is in ap (λ (m : Node A). m.kids) s.2
 
-  pub seen_was : (slots : List (Option (Stored A))) (params : List (List ℤ)) (kids : List (List ℕ)) (k : ℕ) (n : Node A) (x : Kind) → shown_nodes slots params kids k ≡ Some n → Some x ≡ option_map (λ (s : Stored A). s.kind) (slot_at slots k) → seen_as x (row_at params k) ≡ n.seen
+  pub seen_was : (slots : List (Option (Stored A))) (params : List (List ℤ)) (kids : List (List ℕ)) (k : ℕ) (n : Node A) (x : NodeKind) → shown_nodes slots params kids k ≡ Some n → Some x ≡ option_map (λ (s : Stored A). s.kind) (slot_at slots k) → seen_as x (row_at params k) ≡ n.seen
   seen_was slots params kids k n x is was =
       let s = stored_of slots params kids k n is in
       ap (λ y. seen_as y (row_at params k)) (same_Some x s.0.kind (was ∙ ap (option_map (λ (t : Stored A). t.kind)) s.1)) ∙ ap (λ (m : Node A). m.seen) s.2
 
   -- the symbol of one node changed
-  pub seen_changed : (slots slots' : List (Option (Stored A))) (params params' : List (List ℤ)) (kids : List (List ℕ)) (k : ℕ) (x : Kind) (l : List ℤ) (n : Node A) → shown_nodes slots params kids k ≡ Some n → slots' ≡ change_slot (kind_set x) slots k → ComesTo k l params params' → shown_nodes slots' params' kids ≡ with_node (shown_nodes slots params kids) k (Some (with_seen (seen_as x l) n))
+  pub seen_changed : (slots slots' : List (Option (Stored A))) (params params' : List (List ℤ)) (kids : List (List ℕ)) (k : ℕ) (x : NodeKind) (l : List ℤ) (n : Node A) → shown_nodes slots params kids k ≡ Some n → slots' ≡ change_slot (kind_set x) slots k → ComesTo k l params params' → shown_nodes slots' params' kids ≡ with_node (shown_nodes slots params kids) k (Some (with_seen (seen_as x l) n))
   seen_changed slots slots' params params' kids k x l n is changed comes =
       let s = stored_of slots params kids k n is in
       nodes_put k slots slots' params params' kids kids (Some (with_seen (seen_as x l) n)) (record {

@@ -7,8 +7,8 @@ use Rattle.lsys_spec.specs.Levels.{level_balanced, AreMates}
 use Rattle.lsys_spec.specs.Levels as L
 use Rattle.std.proofs.Common.{ℤ}
 use Rattle.lsys_spec.specs.Rows.{In, AreApart, first_in, mirrored}
-use Rattle.lsys_forest.specs.declared.node.Kind.{Kind}
-use Rattle.lsys_forest.specs.declared.node.Kind.TheVariants as kinds
+use Rattle.lsys_forest.specs.declared.node.NodeKind.{NodeKind}
+use Rattle.lsys_forest.specs.declared.node.NodeKind.TheVariants as kinds
 use Rattle.lsys_forest.specs.declared.walk.Way.{Way}
 use Rattle.lsys_forest.specs.Mates.{IsBracketThat, IsMateThat, seen_level, mate_way}
 use Rattle.lsys_level.specs.Spots.{Seen, Push, Pop, Spotted, IsBracket, IsBracketAt, IsMate, spots_at, spotted_at, level_by, IsSpot}
@@ -260,7 +260,7 @@ module _ {A : Type 0} where
               (k, s.before, s.after, (s.whole, sym s.long), ap (λ (x : Spotted). x.tag) (sym (same_Some (spot_in k (now_of f k)) a g)) ∙ tag_is k (now_of f k))
 
   -- the way of a bracket's mate
-  pub bracket_way : (f : Grove A) (k : ℕ) → (at : IsNodeAt f k) → (kind : Kind) (params : List ℤ) → at.node.seen ≡ seen_as kind params → IsBracketAt (spots_at (complete_levels f) (level_of_node f k)) (place_of_node f k) → IsBracketThat (mate_way kind) (Some at.node)
+  pub bracket_way : (f : Grove A) (k : ℕ) → (at : IsNodeAt f k) → (kind : NodeKind) (params : List ℤ) → at.node.seen ≡ seen_as kind params → IsBracketAt (spots_at (complete_levels f) (level_of_node f k)) (place_of_node f k) → IsBracketThat (mate_way kind) (Some at.node)
   bracket_way f k at kinds.Push params seen b = seen
   bracket_way f k at kinds.Pop params seen b = seen
   bracket_way f k at (kinds.Module name) params seen b =
@@ -268,15 +268,15 @@ module _ {A : Type 0} where
       absurd (subst IsBracket (ap (λ (s : Spotted). s.seen) same ∙ seen) b.kind)
 
   -- where a node is of another kind than a module, a bracket stands
-  pub bracket_there : (f : Grove A) (k : ℕ) → (at : IsNodeAt f k) → (kind : Kind) (params : List ℤ) → at.node.seen ≡ seen_as kind params → ((name : List ℕ) → kind ≡ kinds.Module name → ⊥) → IsBracketAt (spots_at (complete_levels f) (level_of_node f k)) (place_of_node f k)
+  pub bracket_there : (f : Grove A) (k : ℕ) → (at : IsNodeAt f k) → (kind : NodeKind) (params : List ℤ) → at.node.seen ≡ seen_as kind params → ((name : List ℕ) → kind ≡ kinds.Module name → ⊥) → IsBracketAt (spots_at (complete_levels f) (level_of_node f k)) (place_of_node f k)
   bracket_there f k at kinds.Push params seen other = record { bracket = spot_in k (Some at.node); is = spotted_is f k at; kind = subst IsBracket (sym seen) tt }
   bracket_there f k at kinds.Pop params seen other = record { bracket = spot_in k (Some at.node); is = spotted_is f k at; kind = subst IsBracket (sym seen) tt }
   bracket_there f k at (kinds.Module name) params seen other = absurd (other name refl)
 
-  pub no_bracket : (f : Grove A) (k : ℕ) → (at : IsNodeAt f k) → (kind : Kind) (params : List ℤ) → at.node.seen ≡ seen_as kind params → (name : List ℕ) → kind ≡ kinds.Module name → IsBracketAt (spots_at (complete_levels f) (level_of_node f k)) (place_of_node f k) → ⊥
+  pub no_bracket : (f : Grove A) (k : ℕ) → (at : IsNodeAt f k) → (kind : NodeKind) (params : List ℤ) → at.node.seen ≡ seen_as kind params → (name : List ℕ) → kind ≡ kinds.Module name → IsBracketAt (spots_at (complete_levels f) (level_of_node f k)) (place_of_node f k) → ⊥
   no_bracket f k at kind params seen name is b =
       let same : b.bracket ≡ spot_in k (Some at.node) = same_Some b.bracket (spot_in k (Some at.node)) (sym b.is ∙ spotted_is f k at) in
-      subst IsBracket (ap (λ (s : Spotted). s.seen) same ∙ seen ∙ ap (λ (x : Kind). seen_as x params) is) b.kind
+      subst IsBracket (ap (λ (s : Spotted). s.seen) same ∙ seen ∙ ap (λ (x : NodeKind). seen_as x params) is) b.kind
 
   pub mate_level : (f : Grove A) (changes : List (Change A)) (way : Way) (k mate : ℕ) → IsRooted f.root changes (now_of f) → IsMateThat way (now_of f) (level_nodes (now_of f) f.root (level_of_node f k)) k mate → level_of_node f mate ≡ level_of_node f k
   mate_level f changes way k mate sound mates = (spot_of f changes sound (level_of_node f k) mate mates.before mates.after mates.whole).level

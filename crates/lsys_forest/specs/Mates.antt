@@ -3,8 +3,8 @@ use Rattle.std.specs.Prelude.{◌≡◌, ℕ, zero, suc, List, ◌∷◌, ◌++�
 use Rattle.lsys_spec.specs.Levels.{AreMates}
 use Rattle.lsys_spec.specs.Levels as L
 use Rattle.lsys_level.specs.Spots.{Push, Pop, level_by}
-use Rattle.lsys_forest.specs.declared.node.Kind.{Kind}
-use Rattle.lsys_forest.specs.declared.node.Kind.TheVariants as kinds
+use Rattle.lsys_forest.specs.declared.node.NodeKind.{NodeKind}
+use Rattle.lsys_forest.specs.declared.node.NodeKind.TheVariants as kinds
 use Rattle.lsys_forest.specs.declared.walk.Way.{Way}
 use Rattle.lsys_forest.specs.declared.walk.Way.TheVariants.{Left, Right}
 use Rattle.lsys_forest.specs.Nodes.{Node, Nodes}
@@ -17,7 +17,7 @@ one_less zero = None
 one_less (suc n) = Some n
 
 -- how many branches are open after a symbol, that way; none where the symbol ends the branch that is walked along
-abbrev pub nested : Way → Kind → ℕ → Option ℕ
+abbrev pub nested : Way → NodeKind → ℕ → Option ℕ
 nested Right kinds.Push n = Some (suc n)
 nested Right kinds.Pop n = one_less n
 nested Left kinds.Push n = one_less n
@@ -25,7 +25,7 @@ nested Left kinds.Pop n = Some (suc n)
 nested way (kinds.Module name) n = Some n
 
 -- which way the mate of a bracket is
-abbrev pub mate_way : Kind → Way
+abbrev pub mate_way : NodeKind → Way
 mate_way kinds.Push = Right
 mate_way kinds.Pop = Left
 mate_way (kinds.Module name) = Right

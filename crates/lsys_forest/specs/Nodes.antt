@@ -2,8 +2,8 @@
 use Rattle.std.specs.Prelude.{◌≡◌, ℕ, ℤ, List, [], Option, Some, None, cond, nat_eq, option_map}
 use Rattle.lsys_module.specs.Views.{module_name}
 use Rattle.lsys_level.specs.Spots.{Seen, Push, Pop, Module}
-use Rattle.lsys_forest.specs.declared.node.Kind.{Kind}
-use Rattle.lsys_forest.specs.declared.node.Kind.TheVariants as kinds
+use Rattle.lsys_forest.specs.declared.node.NodeKind.{NodeKind}
+use Rattle.lsys_forest.specs.declared.node.NodeKind.TheVariants as kinds
 
 -- A node: the number of its parent, the code and the count that name it under that one, how many steps it is below the
 -- root, its symbol, its key, its children in order, and the answer that it keeps.
@@ -22,7 +22,7 @@ abbrev pub root_node : {A : Type 0} → ℕ → Node A
 root_node root = record { parent = root; code = 0; count = 0; depth = 0; seen = Push; key = 0; kids = []; answer = None }
 
 -- what a symbol is, by its kind and its parameters
-abbrev pub seen_as : Kind → List ℤ → Seen
+abbrev pub seen_as : NodeKind → List ℤ → Seen
 seen_as kinds.Push params = Push
 seen_as kinds.Pop params = Pop
 seen_as (kinds.Module name) params = Module (record { name = module_name name; params = params })

@@ -1,9 +1,9 @@
 -- What befalls the slots of a table, their runs and their footings.
 use Rattle.std.specs.Prelude.{◌≡◌, ◌≢◌, ℕ, List, [], Option, None, IsSome, slice_set, option_map}
 use Rattle.slab.specs.Slab.{Slab}
-use Rattle.lsys_forest.specs.declared.node.Entry.{Entry}
+use Rattle.lsys_forest.specs.declared.node.NodeEntry.{NodeEntry}
 use Rattle.lsys_forest.specs.declared.node.Footing.{Footing}
-use Rattle.lsys_forest.specs.declared.node.Kind.TheVariants.{Push}
+use Rattle.lsys_forest.specs.declared.node.NodeKind.TheVariants.{Push}
 use Rattle.lsys_forest.specs.declared.node.Stored.{Stored}
 use Rattle.lsys_forest.specs.Shelves.{run_at}
 use Rattle.lsys_forest.specs.Slots.{SlotTable, slot_at, footing_at, no_footing, change_slot, change_run, change_footing, change_entry, run_before, param_run_in, kid_run_in}
@@ -51,10 +51,10 @@ module _ {A : Type 0} where
   kid_run_or t k run = run_before (slot_at t.slots k) (run_at t.kid_runs k) run
 
   -- the runs of an entry, or this one where there is none
-  abbrev pub entry_params_or : Option (Entry A) → Option ℕ → Option ℕ
+  abbrev pub entry_params_or : Option (NodeEntry A) → Option ℕ → Option ℕ
   entry_params_or e run = run_before e (param_run_in e) run
 
-  abbrev pub entry_kids_or : Option (Entry A) → Option ℕ → Option ℕ
+  abbrev pub entry_kids_or : Option (NodeEntry A) → Option ℕ → Option ℕ
   entry_kids_or e run = run_before e (kid_run_in e) run
 
   -- no node is at a number any more, nor are its lists and its footing
@@ -93,5 +93,5 @@ module _ {A : Type 0} where
       IsSome (slot_at old.slots k) → footing_at new.footings k ≡ f (footing_at old.footings k)
 
   -- the entry at a number was changed so, if there is one, and nothing else
-  abbrev pub ChangesEntry : (Entry A → Entry A) → ℕ → Slab (Entry A) → Slab (Entry A) → Type 0
+  abbrev pub ChangesEntry : (NodeEntry A → NodeEntry A) → ℕ → Slab (NodeEntry A) → Slab (NodeEntry A) → Type 0
   ChangesEntry f k old new = new ≡ record old { slots = change_entry f old.slots k }

@@ -2,10 +2,10 @@
 use Rattle.std.specs.Prelude.{◌≡◌, ◌≢◌, ℕ, List, map, Option, Some, None, is_some, count_by, option_map, slice_set, slice_index_or}
 use Rattle.slab.specs.Slab.{Slab}
 use Rattle.lsys_forest.specs.Shelves.{run_at}
-use Rattle.lsys_forest.specs.declared.node.Kind.{Kind}
+use Rattle.lsys_forest.specs.declared.node.NodeKind.{NodeKind}
 use Rattle.lsys_forest.specs.declared.node.Stored.{Stored}
 use Rattle.lsys_forest.specs.declared.node.Footing.{Footing}
-use Rattle.lsys_forest.specs.declared.node.Entry.{Entry}
+use Rattle.lsys_forest.specs.declared.node.NodeEntry.{NodeEntry}
 use Rattle.lsys_forest.specs.declared.walk.Way.{Way}
 use Rattle.lsys_forest.specs.declared.walk.Way.TheVariants.{Left, Right}
 
@@ -88,7 +88,7 @@ module _ {A : Type 0} where
   abbrev pub change_slot : (Stored A → Stored A) → List (Option (Stored A)) → ℕ → List (Option (Stored A))
   change_slot f slots k = slice_set slots k (option_map f (slot_at slots k))
 
-  abbrev pub kind_set : Kind → Stored A → Stored A
+  abbrev pub kind_set : NodeKind → Stored A → Stored A
   kind_set x s = record s { kind = x }
 
   abbrev pub key_set : ℕ → Stored A → Stored A
@@ -103,44 +103,44 @@ module _ {A : Type 0} where
   answer_before (Some s) x = s.answer
 
   -- what an entry has, where there is one
-  abbrev pub node_in : Option (Entry A) → Option (Stored A)
+  abbrev pub node_in : Option (NodeEntry A) → Option (Stored A)
   node_in None = None
   node_in (Some e) = Some e.node
 
-  abbrev pub param_run_in : Option (Entry A) → Option ℕ
+  abbrev pub param_run_in : Option (NodeEntry A) → Option ℕ
   param_run_in None = None
   param_run_in (Some e) = e.params
 
-  abbrev pub kid_run_in : Option (Entry A) → Option ℕ
+  abbrev pub kid_run_in : Option (NodeEntry A) → Option ℕ
   kid_run_in None = None
   kid_run_in (Some e) = e.kids
 
-  abbrev pub footing_in : Option (Entry A) → Footing
+  abbrev pub footing_in : Option (NodeEntry A) → Footing
   footing_in None = no_footing
   footing_in (Some e) = e.footing
 
   -- the entries of a slab, part by part
-  abbrev pub table_of : Slab (Entry A) → SlotTable A
+  abbrev pub table_of : Slab (NodeEntry A) → SlotTable A
   table_of s = record { slots = map node_in s.slots; param_runs = map param_run_in s.slots; kid_runs = map kid_run_in s.slots; footings = map footing_in s.slots; next = s.vacant_key; capacity = s.capacity }
 
   -- the entry at a number was changed, if there is one
-  abbrev pub change_entry : (Entry A → Entry A) → List (Option (Entry A)) → ℕ → List (Option (Entry A))
+  abbrev pub change_entry : (NodeEntry A → NodeEntry A) → List (Option (NodeEntry A)) → ℕ → List (Option (NodeEntry A))
   change_entry f entries k = slice_set entries k (option_map f (slice_index_or entries k None))
 
-  abbrev pub node_set : (Stored A → Stored A) → Entry A → Entry A
+  abbrev pub node_set : (Stored A → Stored A) → NodeEntry A → NodeEntry A
   node_set f e = record e { node = f e.node }
 
-  abbrev pub params_set : Option ℕ → Entry A → Entry A
+  abbrev pub params_set : Option ℕ → NodeEntry A → NodeEntry A
   params_set x e = record e { params = x }
 
-  abbrev pub kids_set : Option ℕ → Entry A → Entry A
+  abbrev pub kids_set : Option ℕ → NodeEntry A → NodeEntry A
   kids_set x e = record e { kids = x }
 
-  abbrev pub footing_set : (Footing → Footing) → Entry A → Entry A
+  abbrev pub footing_set : (Footing → Footing) → NodeEntry A → NodeEntry A
   footing_set f e = record e { footing = f e.footing }
 
   -- an entry was put at a number, and all others stay
-  pub record PutsEntry (old new : SlotTable A) (k : ℕ) (e : Entry A) : Type 0 where
+  pub record PutsEntry (old new : SlotTable A) (k : ℕ) (e : NodeEntry A) : Type 0 where
     pub slot : slot_at new.slots k ≡ Some e.node
     pub params : run_at new.param_runs k ≡ e.params
     pub kids : run_at new.kid_runs k ≡ e.kids
@@ -150,7 +150,7 @@ module _ {A : Type 0} where
     pub other_footings : (j : ℕ) → j ≢ k → footing_at new.footings j ≡ footing_at old.footings j
 
   -- this entry stands at a number, if there is one
-  pub record HasEntryAt (t : SlotTable A) (k : ℕ) (e : Option (Entry A)) : Type 0 where
+  pub record HasEntryAt (t : SlotTable A) (k : ℕ) (e : Option (NodeEntry A)) : Type 0 where
     pub slot : node_in e ≡ slot_at t.slots k
     pub params : param_run_in e ≡ run_at t.param_runs k
     pub kids : kid_run_in e ≡ run_at t.kid_runs k

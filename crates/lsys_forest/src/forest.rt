@@ -19,7 +19,7 @@ ghost use Rattle.lsys_forest.specs.Neighbours.{IsNextIn, IsChildFrom, IsFirstBel
 use crate::around::{Around, linked_around};
 use crate::kept::Kept;
 use crate::link::link_levels;
-use crate::node::{Kind, NodeId};
+use crate::node::{NodeId, NodeKind};
 use crate::pairs::mate_levels;
 use crate::seen::is_seen;
 use crate::stock::Parts;
@@ -433,7 +433,7 @@ impl<A: Kept> Forest<A> {
         ensures { IsMateNode self.now spot result }
     {
         match self.parts.kind(spot) {
-            Kind::Module(_) => None,
+            NodeKind::Module(_) => None,
             _ => Some(self.mate(spot)),
         }
     }
@@ -532,25 +532,25 @@ impl<A: Kept> LevelView for Forest<A> {
 }
 
 /// Which way the mate of a bracket is; of a module, which has none, to the right.
-fn way_to_mate(kind: Kind) -> Way
+fn way_to_mate(kind: NodeKind) -> Way
     ensures { result ≡ mate_way kind }
 {
     match kind {
-        Kind::Pop => Way::Left,
+        NodeKind::Pop => Way::Left,
         _ => Way::Right,
     }
 }
 
 /// On how many levels mates stay, where they stood on so many, and a node so many steps below the root got this symbol in
 /// place of one of this kind: on all of them, where both are the same bracket or modules.
-fn mated_still(mated: u32, depth: u32, kind: Kind, symbol: &Symbol) -> u32
+fn mated_still(mated: u32, depth: u32, kind: NodeKind, symbol: &Symbol) -> u32
     ensures fewer { result ≤ mated }
     ensures sort { AreSameSort (seen_as kind []) (seen_in symbol.now) ⊎ (result ≤ depth - 1) }
 {
     match (kind, symbol) {
-        (Kind::Push, Symbol::Push) => mated,
-        (Kind::Pop, Symbol::Pop) => mated,
-        (Kind::Module(_), Symbol::Module(_)) => mated,
+        (NodeKind::Push, Symbol::Push) => mated,
+        (NodeKind::Pop, Symbol::Pop) => mated,
+        (NodeKind::Module(_), Symbol::Module(_)) => mated,
         _ => mated.min(depth.saturating_sub(1)),
     }
 }

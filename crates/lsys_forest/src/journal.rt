@@ -6,7 +6,7 @@ ghost use Rattle.lsys_forest.specs.Notes.{as_was, value_count, answer_count, kid
 ghost use Rattle.lsys_forest.specs.LastChange.{TakesNoteUp, LastNoteLives, LineLives};
 
 use crate::kept::Kept;
-use crate::node::{Kind, NodeId};
+use crate::node::{NodeId, NodeKind};
 use crate::note::{Note, Remnant, Was};
 use std::alloc::{AllocError, Global};
 use std::marker::Model;
@@ -29,7 +29,7 @@ pub(crate) enum Sort {
 /// What a note tells of a symbol or of a key.
 #[derive(Clone, Copy, Drop)]
 pub(crate) enum Value {
-    Kind(Kind),
+    Kind(NodeKind),
     Key(u64),
 }
 

@@ -31,7 +31,7 @@ impl Model for NodeId {
 
 /// A symbol without its parameters.
 #[derive(Clone, Copy, Drop)]
-pub(crate) enum Kind {
+pub(crate) enum NodeKind {
     /// `[`
     Push,
     /// `]`
@@ -48,7 +48,7 @@ pub(crate) struct Stored<A> {
     pub(crate) count: u32,
     /// How many steps it is below the root.
     pub(crate) depth: u32,
-    pub(crate) kind: Kind,
+    pub(crate) kind: NodeKind,
     pub(crate) key: u64,
     pub(crate) answer: Option<A>,
 }
@@ -67,7 +67,7 @@ pub(crate) struct Footing {
 
 /// A node with the runs of its parameters and of its children, and where it stands among others.
 #[derive(Drop)]
-pub(crate) struct Entry<A> {
+pub(crate) struct NodeEntry<A> {
     pub(crate) node: Stored<A>,
     pub(crate) params: Run,
     pub(crate) kids: Run,
@@ -75,14 +75,14 @@ pub(crate) struct Entry<A> {
 }
 
 /// The kind of a symbol.
-pub(crate) fn kind_of(symbol: &Symbol) -> Kind
+pub(crate) fn kind_of(symbol: &Symbol) -> NodeKind
     requires { symbol.now ≢ Cut }
     ensures { seen_as result (params_in symbol.now) ≡ seen_in symbol.now }
 {
     match symbol {
-        Symbol::Push => Kind::Push,
-        Symbol::Pop => Kind::Pop,
-        Symbol::Module(module) => Kind::Module(module.name),
+        Symbol::Push => NodeKind::Push,
+        Symbol::Pop => NodeKind::Pop,
+        Symbol::Module(module) => NodeKind::Module(module.name),
         Symbol::Cut => unreachable!(),
     }
 }
@@ -120,7 +120,7 @@ pub(crate) fn root_stored<A>() -> Stored<A>
         code: 0,
         count: 0,
         depth: 0,
-        kind: Kind::Push,
+        kind: NodeKind::Push,
         key: 0,
         answer: None,
     }

@@ -9,7 +9,7 @@ ghost use Rattle.lsys_forest.specs.Pairs.{AreMated, PairsIn, seen_at};
 ghost use Rattle.lsys_forest.specs.Rows.{level_nodes};
 
 use crate::kept::Kept;
-use crate::node::{Kind, NodeId};
+use crate::node::{NodeId, NodeKind};
 use crate::stock::Parts;
 use crate::walk::{Way, first_at, first_child};
 
@@ -79,12 +79,12 @@ fn pair<A: Kept>(parts: &mut Parts<A>, node: NodeId, opener: Option<NodeId>) -> 
 {
     let kind = parts.kind(node);
     match kind {
-        Kind::Push => {
+        NodeKind::Push => {
             parts.set_mate(node, opener);
             Some(node)
         }
-        Kind::Pop => end_branch(parts, node, opener),
-        Kind::Module(_) => opener,
+        NodeKind::Pop => end_branch(parts, node, opener),
+        NodeKind::Module(_) => opener,
     }
 }
 

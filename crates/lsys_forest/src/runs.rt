@@ -12,12 +12,12 @@ ghost use Rattle.lsys_forest.specs.SlotChanges.{KeepsOtherFootings};
 
 use crate::kept::{Kept, release_one};
 use crate::lists::Lists;
-use crate::node::{Entry, NodeId, Stored, nowhere};
-use crate::table::Table;
+use crate::node::{NodeEntry, NodeId, Stored, nowhere};
+use crate::table::NodeTable;
 
 /// Gives a node these parameters, and puts those that it had after the past ones. It takes no memory.
 pub(crate) fn swap_params<A: Drop>(
-    table: &mut Table<A>,
+    table: &mut NodeTable<A>,
     lists: &mut Lists<i64>,
     node: NodeId,
     list: &[i64],
@@ -37,7 +37,7 @@ pub(crate) fn swap_params<A: Drop>(
 
 /// Gives a node these children, and puts those that it had after the past ones. It takes no memory.
 pub(crate) fn swap_kids<A: Drop>(
-    table: &mut Table<A>,
+    table: &mut NodeTable<A>,
     lists: &mut Lists<NodeId>,
     node: NodeId,
     list: &[NodeId],
@@ -56,7 +56,11 @@ pub(crate) fn swap_kids<A: Drop>(
 }
 
 /// Gives a node the last of the past parameters, and frees those that it has. It takes no memory.
-pub(crate) fn restore_params<A: Drop>(table: &mut Table<A>, lists: &mut Lists<i64>, node: NodeId)
+pub(crate) fn restore_params<A: Drop>(
+    table: &mut NodeTable<A>,
+    lists: &mut Lists<i64>,
+    node: NodeId,
+)
     requires owned { IsOwner lists.old table.old.param_runs }
     ensures owned { IsOwner lists.new table.new.param_runs }
     ensures restored { OnParams (RestoresAt table.old node) lists.old table.old lists.new table.new }
@@ -69,7 +73,11 @@ pub(crate) fn restore_params<A: Drop>(table: &mut Table<A>, lists: &mut Lists<i6
 }
 
 /// Gives a node the last of the past lists of children, and frees the one that it has. It takes no memory.
-pub(crate) fn restore_kids<A: Drop>(table: &mut Table<A>, lists: &mut Lists<NodeId>, node: NodeId)
+pub(crate) fn restore_kids<A: Drop>(
+    table: &mut NodeTable<A>,
+    lists: &mut Lists<NodeId>,
+    node: NodeId,
+)
     requires owned { IsOwner lists.old table.old.kid_runs }
     ensures owned { IsOwner lists.new table.new.kid_runs }
     ensures restored { OnKids (RestoresAt table.old node) lists.old table.old lists.new table.new }
@@ -83,7 +91,7 @@ pub(crate) fn restore_kids<A: Drop>(table: &mut Table<A>, lists: &mut Lists<Node
 
 /// Adds a node with these parameters and no children, and answers its number. It takes no memory.
 pub(crate) fn insert<A: Drop>(
-    table: &mut Table<A>,
+    table: &mut NodeTable<A>,
     params: &mut Lists<i64>,
     kids: &mut Lists<NodeId>,
     node: Stored<A>,
@@ -106,7 +114,7 @@ pub(crate) fn insert<A: Drop>(
     ensures has_params { OnParams (Inserts result list.now) params.old table.old params.new table.new }
     ensures no_kids { OnKids (Inserts result []) kids.old table.old kids.new table.new }
 {
-    let entry = Entry {
+    let entry = NodeEntry {
         node,
         params: params.place(list),
         kids: kids.place(&[]),
@@ -117,7 +125,7 @@ pub(crate) fn insert<A: Drop>(
 
 /// Removes a node that lives, frees its parameters, and puts its children after the past ones. It takes no memory.
 pub(crate) fn take_out<A: Drop>(
-    table: &mut Table<A>,
+    table: &mut NodeTable<A>,
     params: &mut Lists<i64>,
     kids: &mut Lists<NodeId>,
     node: NodeId,
@@ -145,7 +153,7 @@ pub(crate) fn take_out<A: Drop>(
 
 /// Removes a node, if it lives, frees its lists and releases its answer. It takes no memory.
 pub(crate) fn clear<A: Kept>(
-    table: &mut Table<A>,
+    table: &mut NodeTable<A>,
     params: &mut Lists<i64>,
     kids: &mut Lists<NodeId>,
     node: NodeId,
@@ -171,7 +179,7 @@ pub(crate) fn clear<A: Kept>(
 }
 
 /// Gives each of these nodes its place among them as its rank.
-pub(crate) fn number<A: Drop>(table: &mut Table<A>, kids: &[NodeId])
+pub(crate) fn number<A: Drop>(table: &mut NodeTable<A>, kids: &[NodeId])
     requires apart { AreApart kids.now }
     requires live { (k : ℕ) → In k kids.now → IsSome (slot_at table.old.slots k) }
     ensures stands { (i k : ℕ) → slice_get kids.now i ≡ Some k → rank_at table.new.footings k ≡ i }
@@ -187,7 +195,7 @@ pub(crate) fn number<A: Drop>(table: &mut Table<A>, kids: &[NodeId])
 
 /// Links these nodes to one another, the first of them after this one, and answers the last.
 pub(crate) fn link_row<A: Drop>(
-    table: &mut Table<A>,
+    table: &mut NodeTable<A>,
     kids: &[NodeId],
     before: Option<NodeId>,
 ) -> Option<NodeId>
@@ -207,7 +215,7 @@ pub(crate) fn link_row<A: Drop>(
 }
 
 /// Links a node after the last one, if there is one.
-fn join<A: Drop>(table: &mut Table<A>, last: Option<NodeId>, kid: NodeId)
+fn join<A: Drop>(table: &mut NodeTable<A>, last: Option<NodeId>, kid: NodeId)
     requires lives { IsSome (slot_at table.old.slots kid) }
     requires last { (k : ℕ) → last ≡ Some k → IsSome (slot_at table.old.slots k) × (k ≢ kid) }
     ensures joins { Joins table.old.footings table.new.footings last kid }

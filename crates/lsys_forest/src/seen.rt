@@ -5,7 +5,7 @@ ghost use Rattle.lsys_level.specs.Spots.{Module};
 ghost use Rattle.lsys_level.specs.Places.{seen_in};
 ghost use Rattle.lsys_level.specs.Views.{seen_of};
 ghost use Rattle.lsys_forest.specs.Nodes.{seen_as};
-ghost use Rattle.lsys_forest.specs.declared.node.Kind.TheVariants as kinds;
+ghost use Rattle.lsys_forest.specs.declared.node.NodeKind.TheVariants as kinds;
 
 use lsys_level::Sight;
 use lsys_module::Symbol;

@@ -25,12 +25,12 @@ ghost use Rattle.lsys_forest.specs.Regions.{StandIn};
 use crate::journal::{Journal, Line, Sort};
 use crate::kept::{Kept, release_one};
 use crate::lists::Lists;
-use crate::node::{Footing, Kind, NodeId, Stored, kind_of, params_of, root_stored};
+use crate::node::{Footing, NodeId, NodeKind, Stored, kind_of, params_of, root_stored};
 use crate::note::{Look, Note, Remnant, Was};
 use crate::runs::{
     clear, insert, link_row, number, restore_kids, restore_params, swap_kids, swap_params, take_out,
 };
-use crate::table::Table;
+use crate::table::NodeTable;
 use crate::walk::Way;
 use lsys_level::Sight;
 use lsys_module::Symbol;
@@ -41,7 +41,7 @@ use std::marker::Model;
 /// Nodes, their parameters and children, and the notes of what they were before each change since the last rest.
 #[derive(Drop)]
 pub(crate) struct Parts<A> {
-    table: Table<A>,
+    table: NodeTable<A>,
     params: Lists<i64>,
     kids: Lists<NodeId>,
     journal: Journal<A>,
@@ -70,7 +70,7 @@ impl<A: Drop> Parts<A> {
         ensures capacity { IfOk result (λ p. 1 ≤ p.capacity) }
         ensures notes { IfOk result (λ p. 1 ≤ p.note_room) }
     {
-        let mut table = Table::new(alloc);
+        let mut table = NodeTable::new(alloc);
         table.reserve(1)?;
         let mut params = Lists::new(alloc);
         let mut kids = Lists::new(alloc);
@@ -234,7 +234,7 @@ impl<A: Drop> Parts<A> {
     }
 
     /// The kind of the symbol of a node that lives.
-    pub(crate) fn kind(&self, node: NodeId) -> Kind
+    pub(crate) fn kind(&self, node: NodeId) -> NodeKind
         requires { IsSome (nodes_of self.now node) }
         ensures { (s : Stored A) → slot_at self.now.slots node ≡ Some s → result ≡ s.kind }
     {
@@ -250,9 +250,9 @@ impl<A: Drop> Parts<A> {
         ensures { (n : Node A) → nodes_of self.now node ≡ Some n → seen_of result ≡ n.seen }
     {
         match self.kind(node) {
-            Kind::Push => Sight::Push,
-            Kind::Pop => Sight::Pop,
-            Kind::Module(name) => Sight::Module {
+            NodeKind::Push => Sight::Push,
+            NodeKind::Pop => Sight::Pop,
+            NodeKind::Module(name) => Sight::Module {
                 name,
                 params: self.params(node),
             },
@@ -484,7 +484,7 @@ impl<A: Kept> Parts<A> {
 
 /// Undoes the change of this note, which was the last.
 fn undo_note<A: Kept>(
-    table: &mut Table<A>,
+    table: &mut NodeTable<A>,
     params: &mut Lists<i64>,
     kids: &mut Lists<NodeId>,
     note: Note<A>,

@@ -2,12 +2,12 @@
 ghost use Rattle.std.specs.Prelude.{◌≡◌, ◌↔◌, IsTrue, ◌+◌, ◌<◌, ◌≤◌, ◌^◌, ℕ, None, OnOk, Some, IsSome, option_map, option_copied};
 ghost use Rattle.slab.specs.Slab.{Slab, get};
 ghost use Rattle.lsys_forest.specs.Shelves.{run_at};
-ghost use Rattle.lsys_forest.specs.declared.node.Entry.{Entry};
+ghost use Rattle.lsys_forest.specs.declared.node.NodeEntry.{NodeEntry};
 ghost use Rattle.lsys_forest.specs.Slots.{slot_at, footing_at, rank_at, link_at, mate_at, live_slots, run_after, kind_set, key_set, answer_set, answer_before, node_in, node_set, params_set, kids_set, footing_set, rank_set, right_set, links_set, mate_set, PutsEntry, HasEntryAt};
 ghost use Rattle.lsys_forest.specs.SlotChanges.{KeepsOtherFootings, empty_table, param_run_at, kid_run_at, param_run_or, kid_run_or, entry_params_or, entry_kids_or, Vacates, ChangesSlot, ChangesParamRun, ChangesKidRun, ChangesFooting, FootingBecomes, ChangesEntry};
 ghost use Rattle.lsys_forest.specs.Regions.{HasNoVacantRuns};
 
-use crate::node::{Entry, Footing, Kind, NodeId, Stored, nowhere};
+use crate::node::{Footing, NodeEntry, NodeId, NodeKind, Stored, nowhere};
 use crate::walk::Way;
 use lsys_region::Run;
 use slab::Slab;
@@ -20,11 +20,11 @@ const NUMBERS: usize = 0x1_0000_0000;
 
 /// Nodes by their numbers, each with the runs of its lists, and where it stands among others.
 #[derive(Drop)]
-pub(crate) struct Table<A> {
-    nodes: Slab<Entry<A>>,
+pub(crate) struct NodeTable<A> {
+    nodes: Slab<NodeEntry<A>>,
 }
 
-impl<A> Model for Table<A> {
+impl<A> Model for NodeTable<A> {
     ghost use Rattle.lsys_forest.specs.Slots.{SlotTable, table_of};
 
     ghost Value = { SlotTable A };
@@ -32,12 +32,12 @@ impl<A> Model for Table<A> {
     ghost view = { λ a. table_of a.nodes };
 }
 
-impl<A: Drop> Table<A> {
+impl<A: Drop> NodeTable<A> {
     /// No nodes. It takes no memory.
-    pub(crate) fn new(alloc: Global) -> Table<A>
+    pub(crate) fn new(alloc: Global) -> NodeTable<A>
         ensures { result ≡ empty_table }
     {
-        Table {
+        NodeTable {
             nodes: Slab::new(alloc),
         }
     }
@@ -69,7 +69,7 @@ impl<A: Drop> Table<A> {
     }
 
     /// Adds a node, and answers its number. It takes no memory.
-    pub(crate) fn insert(&mut self, entry: Entry<A>) -> NodeId
+    pub(crate) fn insert(&mut self, entry: NodeEntry<A>) -> NodeId
         requires room { live_slots self.old.slots < self.old.capacity }
         requires numbers { self.old.capacity ≤ 2 ^ 32 }
         ensures next { result ≡ self.old.next }
@@ -186,7 +186,7 @@ impl<A: Drop> Table<A> {
     }
 
     /// Removes a node, and answers it if it lived. It takes no memory.
-    pub(crate) fn remove(&mut self, number: NodeId) -> Option<Entry<A>>
+    pub(crate) fn remove(&mut self, number: NodeId) -> Option<NodeEntry<A>>
         ensures was { HasEntryAt self.old number result }
         ensures gone { Vacates number self.old self.new }
     {
@@ -194,7 +194,7 @@ impl<A: Drop> Table<A> {
     }
 
     /// Sets a symbol without its parameters, and answers the one before.
-    pub(crate) fn swap_kind(&mut self, number: NodeId, kind: Kind) -> Option<Kind>
+    pub(crate) fn swap_kind(&mut self, number: NodeId, kind: NodeKind) -> Option<NodeKind>
         ensures before { result ≡ option_map (λ s. s.kind) (slot_at self.old.slots number) }
         ensures changed { ChangesSlot (kind_set kind) number self.old self.new }
     {
@@ -272,7 +272,11 @@ impl<A: Drop> Table<A> {
 }
 
 /// Sets a symbol without its parameters, and answers the one before.
-fn change_kind<A: Drop>(nodes: &mut Slab<Entry<A>>, number: NodeId, kind: Kind) -> Option<Kind>
+fn change_kind<A: Drop>(
+    nodes: &mut Slab<NodeEntry<A>>,
+    number: NodeId,
+    kind: NodeKind,
+) -> Option<NodeKind>
     ensures before { result ≡ option_map (λ e. e.node.kind) (get nodes.old number) }
     ensures changed { ChangesEntry (node_set (kind_set kind)) number nodes.old nodes.new }
 {
@@ -283,7 +287,7 @@ fn change_kind<A: Drop>(nodes: &mut Slab<Entry<A>>, number: NodeId, kind: Kind) 
 }
 
 /// Sets a key, and answers the one before.
-fn change_key<A: Drop>(nodes: &mut Slab<Entry<A>>, number: NodeId, key: u64) -> Option<u64>
+fn change_key<A: Drop>(nodes: &mut Slab<NodeEntry<A>>, number: NodeId, key: u64) -> Option<u64>
     ensures before { result ≡ option_map (λ e. e.node.key) (get nodes.old number) }
     ensures changed { ChangesEntry (node_set (key_set key)) number nodes.old nodes.new }
 {
@@ -295,7 +299,7 @@ fn change_key<A: Drop>(nodes: &mut Slab<Entry<A>>, number: NodeId, key: u64) -> 
 
 /// Sets an answer, and answers the one before; where no node lives, the answer comes back.
 fn change_answer<A: Drop>(
-    nodes: &mut Slab<Entry<A>>,
+    nodes: &mut Slab<NodeEntry<A>>,
     number: NodeId,
     answer: Option<A>,
 ) -> Option<A>
@@ -309,7 +313,7 @@ fn change_answer<A: Drop>(
 }
 
 /// Sets the run of a node's parameters, and answers the one before; where no node lives, the run comes back.
-fn change_params<A: Drop>(nodes: &mut Slab<Entry<A>>, number: NodeId, run: Run) -> Run
+fn change_params<A: Drop>(nodes: &mut Slab<NodeEntry<A>>, number: NodeId, run: Run) -> Run
     ensures before { result ≡ entry_params_or (get nodes.old number) run }
     ensures changed { ChangesEntry (params_set run) number nodes.old nodes.new }
 {
@@ -320,7 +324,7 @@ fn change_params<A: Drop>(nodes: &mut Slab<Entry<A>>, number: NodeId, run: Run) 
 }
 
 /// Sets the run of a node's children, and answers the one before; where no node lives, the run comes back.
-fn change_kids<A: Drop>(nodes: &mut Slab<Entry<A>>, number: NodeId, run: Run) -> Run
+fn change_kids<A: Drop>(nodes: &mut Slab<NodeEntry<A>>, number: NodeId, run: Run) -> Run
     ensures before { result ≡ entry_kids_or (get nodes.old number) run }
     ensures changed { ChangesEntry (kids_set run) number nodes.old nodes.new }
 {
@@ -331,7 +335,7 @@ fn change_kids<A: Drop>(nodes: &mut Slab<Entry<A>>, number: NodeId, run: Run) ->
 }
 
 /// Sets the rank of a node, if it lives.
-fn change_rank<A: Drop>(nodes: &mut Slab<Entry<A>>, number: NodeId, rank: usize)
+fn change_rank<A: Drop>(nodes: &mut Slab<NodeEntry<A>>, number: NodeId, rank: usize)
     ensures { ChangesEntry (footing_set (rank_set rank)) number nodes.old nodes.new }
 {
     if let Some(entry) = nodes.get_mut(number.0 as usize) {
@@ -340,7 +344,7 @@ fn change_rank<A: Drop>(nodes: &mut Slab<Entry<A>>, number: NodeId, rank: usize)
 }
 
 /// Links a node to its right neighbour, if it lives.
-fn change_right<A: Drop>(nodes: &mut Slab<Entry<A>>, number: NodeId, right: Option<NodeId>)
+fn change_right<A: Drop>(nodes: &mut Slab<NodeEntry<A>>, number: NodeId, right: Option<NodeId>)
     ensures { ChangesEntry (footing_set (right_set right)) number nodes.old nodes.new }
 {
     if let Some(entry) = nodes.get_mut(number.0 as usize) {
@@ -350,7 +354,7 @@ fn change_right<A: Drop>(nodes: &mut Slab<Entry<A>>, number: NodeId, right: Opti
 
 /// Links a node to its neighbours, if it lives.
 fn change_links<A: Drop>(
-    nodes: &mut Slab<Entry<A>>,
+    nodes: &mut Slab<NodeEntry<A>>,
     number: NodeId,
     left: Option<NodeId>,
     right: Option<NodeId>,
@@ -364,7 +368,7 @@ fn change_links<A: Drop>(
 }
 
 /// Sets the mate of a node, if it lives.
-fn change_mate<A: Drop>(nodes: &mut Slab<Entry<A>>, number: NodeId, mate: Option<NodeId>)
+fn change_mate<A: Drop>(nodes: &mut Slab<NodeEntry<A>>, number: NodeId, mate: Option<NodeId>)
     ensures { ChangesEntry (footing_set (mate_set mate)) number nodes.old nodes.new }
 {
     if let Some(entry) = nodes.get_mut(number.0 as usize) {

@@ -12,7 +12,7 @@ ghost use Rattle.lsys_forest.specs.Rows.{oriented, level_nodes};
 ghost use Rattle.lsys_forest.specs.Neighbours.{IsNextIn, IsNextToPlace, ComesBefore, nodes_at_depth, IsBalancedLevel, IsFirstKidFrom};
 
 use crate::kept::Kept;
-use crate::node::{Kind, NodeId};
+use crate::node::{NodeId, NodeKind};
 use crate::stock::Parts;
 
 /// Which way to go along a level.
@@ -165,14 +165,14 @@ pub(crate) fn first_at<A: Kept>(
 }
 
 /// How many branches are open inside the one that is walked along, after a symbol; none where the symbol ends it.
-fn nest(way: Way, kind: Kind, inside: u32) -> Option<u32>
+fn nest(way: Way, kind: NodeKind, inside: u32) -> Option<u32>
     requires { inside + 1 < 2 ^ 32 }
     ensures { result ≡ nested way kind inside }
 {
     match (way, kind) {
-        (Way::Right, Kind::Push) | (Way::Left, Kind::Pop) => Some(inside + 1),
-        (Way::Right, Kind::Pop) | (Way::Left, Kind::Push) => inside.checked_sub(1),
-        (_, Kind::Module(_)) => Some(inside),
+        (Way::Right, NodeKind::Push) | (Way::Left, NodeKind::Pop) => Some(inside + 1),
+        (Way::Right, NodeKind::Pop) | (Way::Left, NodeKind::Push) => inside.checked_sub(1),
+        (_, NodeKind::Module(_)) => Some(inside),
     }
 }
 

@@ -5,7 +5,7 @@ use Rattle.lsys_spec.specs.Lattices.{Vector, vector}
 use Rattle.lsys_lattice.specs.Extents.{Extents}
 use Rattle.lsys_lattice.specs.declared.wide.Vector.{Vector as Wide}
 use Rattle.lsys_lattice.specs.declared.wide.Extents.{Extents as WideExtents}
-use Rattle.lsys_lattice.specs.declared.wide.Span.{Span}
+use Rattle.lsys_lattice.specs.declared.wide.Stretched.{Stretched}
 
 abbrev pub wide_of : Wide → Vector
 wide_of v = vector v.x v.y v.z
@@ -25,11 +25,11 @@ pub record AreBelow (n : ℕ) (e : Extents) : Type 0 where
   pub high : IsBelow n e.high
 
 -- the extents, by the least and the greatest value of each measure
-abbrev pub spanned : Span → Span → Span → Extents
+abbrev pub spanned : Stretched → Stretched → Stretched → Extents
 spanned first second third = record { low = vector first.low second.low third.low; high = vector first.high second.high third.high }
 
 -- both values are below 2^100 in magnitude
-pub record IsShort (s : Span) : Type 0 where
+pub record IsShort (s : Stretched) : Type 0 where
   pub low : unsigned_abs s.low < 2 ^ 100
   pub high : unsigned_abs s.high < 2 ^ 100
 

@@ -7,7 +7,7 @@ ghost use Rattle.lsys_lattice.specs.Directions.{along};
 ghost use Rattle.lsys_lattice.specs.Views.{vector_of};
 ghost use Rattle.lsys_lattice.specs.Wide.{AreBelow, IsBelow, IsShort, extents_of, shared, wide_of};
 
-use crate::wide::Span;
+use crate::wide::Stretched;
 use crate::{Extents, Place, Vector};
 
 /// A direction along an axis.
@@ -67,12 +67,12 @@ impl Direction {
     }
 
     // How far places reach that lie in the direction, as many steps from the origin as the span tells.
-    pub(crate) fn share(self, span: Span) -> Extents
+    pub(crate) fn share(self, span: Stretched) -> Extents
         requires { IsShort span }
         ensures share { extents_of result ≡ shared (along self) span.low span.high }
         ensures within { AreBelow 100 (extents_of result) }
     {
-        let none = Span { low: 0, high: 0 };
+        let none = Stretched { low: 0, high: 0 };
         match self {
             Direction::East => Extents::of(span, none, none),
             Direction::West => Extents::of(span.back(), none, none),

@@ -20,20 +20,20 @@ pub struct Extents {
 
 /// The least and the greatest value of one measure.
 #[derive(Clone, Copy)]
-pub(crate) struct Span {
+pub(crate) struct Stretched {
     pub(crate) low: i128,
     pub(crate) high: i128,
 }
 
-impl Span {
+impl Stretched {
     // That of the measure with the other sign.
-    pub(crate) fn back(self) -> Span
+    pub(crate) fn back(self) -> Stretched
         requires { IsShort self }
         ensures low { result.low ≡ neg_ℤ self.high }
         ensures high { result.high ≡ neg_ℤ self.low }
         ensures short { IsShort result }
     {
-        Span {
+        Stretched {
             low: -self.high,
             high: -self.low,
         }
@@ -42,7 +42,7 @@ impl Span {
 
 impl Extents {
     // Of three measures.
-    pub(crate) fn of(first: Span, second: Span, third: Span) -> Extents
+    pub(crate) fn of(first: Stretched, second: Stretched, third: Stretched) -> Extents
         ensures { extents_of result ≡ spanned first second third }
     {
         Extents {
@@ -60,19 +60,19 @@ impl Extents {
     }
 
     // Of each measure.
-    pub(crate) fn spans(self) -> (Span, Span, Span)
+    pub(crate) fn spans(self) -> (Stretched, Stretched, Stretched)
         ensures { spanned result.0 result.1 result.2 ≡ extents_of self }
     {
         (
-            Span {
+            Stretched {
                 low: self.low.x,
                 high: self.high.x,
             },
-            Span {
+            Stretched {
                 low: self.low.y,
                 high: self.high.y,
             },
-            Span {
+            Stretched {
                 low: self.low.z,
                 high: self.high.z,
             },

@@ -1,11 +1,8 @@
-//! Laws above the definitions: what ties them together, and what would notice a change of them.
+//! Laws above the definitions: what ties them together, and what would notice a change of them; and what an edit disturbs, on which
+//! a pass stands that repairs the levels of an old derivation one after the other.
 //!
 //! The functions here have empty bodies: the contract is a law about the definitions of `lsys_syntax` and `lsys_spec`.
 //! `specs/` has what the laws speak of besides, and examples that the checker computes.
-//!
-//! Laws of what an edit disturbs: what a pass stands on that repairs the levels of an old derivation one after the other.
-//!
-//! The functions here have empty bodies: the contract is a law about the definitions of `lsys_spec`.
 #![tactic(auto)]
 
 pub mod candidates;

@@ -8,9 +8,9 @@ use Rattle.lsys_spec.specs.Levels.{AreMates}
 use Rattle.lsys_module.specs.Views.{module_name}
 use Rattle.lsys_module.specs.declared.symbol.Symbol.{Symbol}
 use Rattle.lsys_module.specs.declared.symbol.Symbol.TheVariants as symbols
-use Rattle.lsys_level.specs.declared.place.Kind.{Kind}
-use Rattle.lsys_level.specs.declared.place.Kind.TheVariants as kinds
-use Rattle.lsys_level.specs.declared.place.Place.{Place}
+use Rattle.lsys_level.specs.declared.place.KeptKind.{KeptKind}
+use Rattle.lsys_level.specs.declared.place.KeptKind.TheVariants as kinds
+use Rattle.lsys_level.specs.declared.place.KeptSymbol.{KeptSymbol}
 use Rattle.lsys_level.specs.Spots.{Seen, Push, Pop, Module, Spotted, with_lineage, named, level_by, IsMate, IsBracket}
 use Rattle.lsys_level.specs.Places.{seen_in, seen_by_kind, spotted, spots_of, bare_symbol, params_in, kept_place, Mates, has_cut, HasParamsWithin, Fits, AllFit, IsSoundRow}
 use Rattle.lsys_region.proofs.ListLemmas.{slice_get-push_cases}
@@ -32,13 +32,13 @@ drop_behind : (values params : List ℤ) → drop (length values) (values ++ par
 drop_behind [] params = refl
 drop_behind (v ∷ values) params = drop_behind values params
 
-seen_on : (values more : List ℤ) (k : Kind) (name : List ℕ) (n arity : ℕ) → HasParamsWithin k (n + arity) (length values)
+seen_on : (values more : List ℤ) (k : KeptKind) (name : List ℕ) (n arity : ℕ) → HasParamsWithin k (n + arity) (length values)
     → seen_by_kind k name (take arity (drop n (values ++ more))) ≡ seen_by_kind k name (take arity (drop n values))
 seen_on values more kinds.Push name n arity h = refl
 seen_on values more kinds.Pop name n arity h = refl
 seen_on values more kinds.Module name n arity h = ap (λ ps. Module (record { name = module_name name; params = ps })) (take_drop_on values more n arity h)
 
-within_on : (values more : List ℤ) (k : Kind) (end : ℕ) → HasParamsWithin k end (length values) → HasParamsWithin k end (length (values ++ more))
+within_on : (values more : List ℤ) (k : KeptKind) (end : ℕ) → HasParamsWithin k end (length values) → HasParamsWithin k end (length (values ++ more))
 within_on values more kinds.Push end h = tt
 within_on values more kinds.Pop end h = tt
 within_on values more kinds.Module end h = omega (arith, h, longer values more)
@@ -47,13 +47,13 @@ within_on values more kinds.Module end h = omega (arith, h, longer values more)
     longer [] more = omega arith
     longer (v ∷ values) more = let k = longer values more in omega (arith, k)
 
-told_on : (values more : List ℤ) (places : List Place) → AllFit values places → map (spotted (values ++ more)) places ≡ map (spotted values) places
+told_on : (values more : List ℤ) (places : List KeptSymbol) → AllFit values places → map (spotted (values ++ more)) places ≡ map (spotted values) places
 told_on values more [] h = refl
 told_on values more (a ∷ places) h =
     ap (λ e. record { seen = e; tag = a.tag; key = a.key } ∷ map (spotted (values ++ more)) places) (seen_on values more a.kind a.name a.link a.arity h.0.within)
     ∙ ap (λ r. spotted values a ∷ r) (told_on values more places h.1)
 
-fit_on : (values more : List ℤ) (places : List Place) (a : Place) → AllFit values places → Fits (values ++ more) a → AllFit (values ++ more) (places ++ a ∷ [])
+fit_on : (values more : List ℤ) (places : List KeptSymbol) (a : KeptSymbol) → AllFit values places → Fits (values ++ more) a → AllFit (values ++ more) (places ++ a ∷ [])
 fit_on values more [] a h f = (f, tt)
 fit_on values more (b ∷ places) a h f = (record { few = h.0.few; within = within_on values more b.kind (b.link + b.arity) h.0.within }, fit_on values more places a h.1 f)
 
@@ -81,7 +81,7 @@ fits_new values (symbols.Module a) m t k h = record { few = h; within = at_end v
     at_end [] params = omega arith
     at_end (v ∷ values) params = let k = at_end values params in omega (arith, k)
 
-map_push : (f : Place → Spotted) (places : List Place) (a : Place) → map f (places ++ a ∷ []) ≡ map f places ++ f a ∷ []
+map_push : (f : KeptSymbol → Spotted) (places : List KeptSymbol) (a : KeptSymbol) → map f (places ++ a ∷ []) ≡ map f places ++ f a ∷ []
 map_push f [] a = refl
 map_push f (b ∷ places) a = ap (λ r. f b ∷ r) (map_push f places a)
 
@@ -102,22 +102,22 @@ link_in symbols.Pop m start t k values h = refl
 link_in symbols.Cut m start t k values h = absurd h
 link_in (symbols.Module a) m start t k values h = absurd h
 
-bracket_any : (k : Kind) (name : List ℕ) (xs ys : List ℤ) → IsBracket (seen_by_kind k name xs) → IsBracket (seen_by_kind k name ys)
+bracket_any : (k : KeptKind) (name : List ℕ) (xs ys : List ℤ) → IsBracket (seen_by_kind k name xs) → IsBracket (seen_by_kind k name ys)
 bracket_any kinds.Push name xs ys h = tt
 bracket_any kinds.Pop name xs ys h = tt
 bracket_any kinds.Module name xs ys h = h
 
 -- the first i symbols are kept
-pub record Filled (ss : List Symbol) (ts ks ms : List ℕ) (i : ℕ) (places : List Place) (values : List ℤ) : Type 0 where
+pub record Filled (ss : List Symbol) (ts ks ms : List ℕ) (i : ℕ) (places : List KeptSymbol) (values : List ℤ) : Type 0 where
   pub told : map (spotted values) places ≡ take i (spots_of ss ts ks)
   pub fit : AllFit values places
-  pub links : (p : ℕ) (a : Place) → slice_get places p ≡ Some a → IsBracket (spotted values a).seen → slice_get ms p ≡ Some a.link
+  pub links : (p : ℕ) (a : KeptSymbol) → slice_get places p ≡ Some a → IsBracket (spotted values a).seen → slice_get ms p ≡ Some a.link
 
-pub filled_on : (ss : List Symbol) (ts ks ms : List ℕ) (i : ℕ) (places : List Place) (values : List ℤ) (s : Symbol) (t k m : ℕ) → Filled ss ts ks ms i places values → length places ≡ i
+pub filled_on : (ss : List Symbol) (ts ks ms : List ℕ) (i : ℕ) (places : List KeptSymbol) (values : List ℤ) (s : Symbol) (t k m : ℕ) → Filled ss ts ks ms i places values → length places ≡ i
     → slice_get ss i ≡ Some s → slice_get ts i ≡ Some t → slice_get ks i ≡ Some k → slice_get ms i ≡ Some m → length (params_in s) ≤ 8
     → Filled ss ts ks ms (i + 1) (places ++ kept_place s m (length values) t k ∷ []) (values ++ params_in s)
 filled_on ss ts ks ms i places values s t k m f n a b c d e =
-    let one : Place = kept_place s m (length values) t k in
+    let one : KeptSymbol = kept_place s m (length values) t k in
     let spot : Spotted = record { seen = seen_in s; tag = t; key = k } in
     let at = spot_at ss ts ks i s t k a b c in
     let upto : take (i + 1) (spots_of ss ts ks) ≡ take i (spots_of ss ts ks) ++ spot ∷ [] = take_more (spots_of ss ts ks) i spot (slice_get_within (spots_of ss ts ks) i spot at) ∙ ap (λ x. take i (spots_of ss ts ks) ++ x ∷ []) (get_or_from_slice_get (spots_of ss ts ks) i spot spot at) in
@@ -169,11 +169,11 @@ mate_told x ys ms p q s same m here told b = by s.seen b (ap (option_map (λ s. 
         record { within = omega (arith, o.0, in_it, wide); opens = λ h. let no : Some Pop ≡ Some Push = sym seen ∙ h in cc; closes = λ h. (o.0, all q p o.1) }
     by (Module a) b seen at = absurd b
 
-pub told_all : (ss : List Symbol) (ts ks ms : List ℕ) (i : ℕ) (places : List Place) (values : List ℤ) → Filled ss ts ks ms i places values → length ts ≡ length ss → length ks ≡ length ss → length ss ≤ i
+pub told_all : (ss : List Symbol) (ts ks ms : List ℕ) (i : ℕ) (places : List KeptSymbol) (values : List ℤ) → Filled ss ts ks ms i places values → length ts ≡ length ss → length ks ≡ length ss → length ss ≤ i
     → map (spotted values) places ≡ spots_of ss ts ks
 told_all ss ts ks ms i places values f a b e = f.told ∙ take_all i (spots_of ss ts ks) (omega (arith, e, long ss ts ks a b))
 
-pub is_row : (ss : List Symbol) (ts ks ms : List ℕ) (i : ℕ) (places : List Place) (values : List ℤ) → Filled ss ts ks ms i places values → length ts ≡ length ss → length ks ≡ length ss → length ss ≤ i → Mates (map bare_symbol ss) ms
+pub is_row : (ss : List Symbol) (ts ks ms : List ℕ) (i : ℕ) (places : List KeptSymbol) (values : List ℤ) → Filled ss ts ks ms i places values → length ts ≡ length ss → length ks ≡ length ss → length ss ≤ i → Mates (map bare_symbol ss) ms
     → IsSoundRow places values
 is_row ss ts ks ms i places values f a b e m = record {
   fit = f.fit;
@@ -183,15 +183,15 @@ is_row ss ts ks ms i places values f a b e m = record {
 
 -- 4. what is read
 
-pub fits_at : (values : List ℤ) (places : List Place) (p : ℕ) (a : Place) → AllFit values places → slice_get places p ≡ Some a → Fits values a
+pub fits_at : (values : List ℤ) (places : List KeptSymbol) (p : ℕ) (a : KeptSymbol) → AllFit values places → slice_get places p ≡ Some a → Fits values a
 fits_at values [] p a f h = cc
 fits_at values (b ∷ places) zero a f h = subst (Fits values) (same_Some _ _ h) f.0
 fits_at values (b ∷ places) (suc p) a f h = fits_at values places p a f.1 h
 
-pub place_read : (x : List Spotted) (values : List ℤ) (places : List Place) (p : ℕ) (a : Place) → map (spotted values) places ≡ x → p < length x → a ≡ get_or places p a → slice_get places p ≡ Some a
+pub place_read : (x : List Spotted) (values : List ℤ) (places : List KeptSymbol) (p : ℕ) (a : KeptSymbol) → map (spotted values) places ≡ x → p < length x → a ≡ get_or places p a → slice_get places p ≡ Some a
 place_read x values places p a e h r = slice_get_read places (length places) p a refl (omega (arith, h, ap length e, length-map places (spotted values))) r
 
-pub spotted_read : (x : List Spotted) (values : List ℤ) (places : List Place) (p : ℕ) (a : Place) → map (spotted values) places ≡ x → p < length x → a ≡ get_or places p a → slice_get x p ≡ Some (spotted values a)
+pub spotted_read : (x : List Spotted) (values : List ℤ) (places : List KeptSymbol) (p : ℕ) (a : KeptSymbol) → map (spotted values) places ≡ x → p < length x → a ≡ get_or places p a → slice_get x p ≡ Some (spotted values a)
 spotted_read x values places p a e h r = ap (λ x. slice_get x p) (sym e) ∙ slice_get-map (spotted values) places p ∙ ap (option_map (spotted values)) (place_read x values places p a e h r)
 
 pub no_cut : (ss : List Symbol) (p : ℕ) (s : Symbol) → has_cut ss ≡ false → slice_get ss p ≡ Some s → s ≡ symbols.Cut → ⊥

@@ -6,9 +6,9 @@ use Rattle.lsys_syntax.specs.Strings.{plus}
 use Rattle.lsys_module.specs.Views.{module_name, string_of}
 use Rattle.lsys_module.specs.declared.symbol.Symbol.{Symbol}
 use Rattle.lsys_module.specs.declared.symbol.Symbol.TheVariants as symbols
-use Rattle.lsys_level.specs.declared.place.Kind.{Kind}
-use Rattle.lsys_level.specs.declared.place.Kind.TheVariants as kinds
-use Rattle.lsys_level.specs.declared.place.Place.{Place}
+use Rattle.lsys_level.specs.declared.place.KeptKind.{KeptKind}
+use Rattle.lsys_level.specs.declared.place.KeptKind.TheVariants as kinds
+use Rattle.lsys_level.specs.declared.place.KeptSymbol.{KeptSymbol}
 use Rattle.lsys_level.specs.Spots.{Seen, Push, Pop, Module, Spotted, with_lineage, level_by, IsMate, IsBracket}
 
 -- what is seen of a symbol; a level has no cut, which would be passed over like a module
@@ -41,7 +41,7 @@ pub record Mates (x : List L.LevelSymbol) (mates : List ℕ) : Type 0 where
   pub closes : (p m : ℕ) (l : List ℕ) → slice_get mates p ≡ Some m → slice_get x p ≡ Some (L.Pop l) → (m < p) × AreMates x m p
 
 -- what is seen of a kept symbol, by its kind, its name and its parameters
-abbrev pub seen_by_kind : Kind → List ℕ → List ℤ → Seen
+abbrev pub seen_by_kind : KeptKind → List ℕ → List ℤ → Seen
 seen_by_kind kinds.Push name params = Push
 seen_by_kind kinds.Pop name params = Pop
 seen_by_kind kinds.Module name params = Module (record { name = module_name name; params = params })
@@ -52,36 +52,36 @@ params_in (symbols.Module m) = m.params
 params_in s = []
 
 -- a symbol as it is kept, with its mate's place if it is a bracket, and where its parameters begin if it is a module
-abbrev pub kept_place : Symbol → ℕ → ℕ → ℕ → ℕ → Place
+abbrev pub kept_place : Symbol → ℕ → ℕ → ℕ → ℕ → KeptSymbol
 kept_place symbols.Push mate start t k = record { key = k; name = 43 ∷ []; link = mate; tag = t; arity = 0; kind = kinds.Push }
 kept_place symbols.Pop mate start t k = record { key = k; name = 43 ∷ []; link = mate; tag = t; arity = 0; kind = kinds.Pop }
 kept_place symbols.Cut mate start t k = record { key = k; name = 43 ∷ []; link = start; tag = t; arity = 0; kind = kinds.Module }
 kept_place (symbols.Module m) mate start t k = record { key = k; name = m.name; link = start; tag = t; arity = length m.params; kind = kinds.Module }
 
 -- a kept symbol, whose parameters stand in this list
-abbrev pub spotted : List ℤ → Place → Spotted
+abbrev pub spotted : List ℤ → KeptSymbol → Spotted
 spotted values a = record { seen = seen_by_kind a.kind a.name (take a.arity (drop a.link values)); tag = a.tag; key = a.key }
 
 -- the parameters of a module stand in the list
-abbrev pub HasParamsWithin : Kind → ℕ → ℕ → Type 0
+abbrev pub HasParamsWithin : KeptKind → ℕ → ℕ → Type 0
 HasParamsWithin kinds.Module end room = end ≤ room
 HasParamsWithin k end room = Unit {0}
 
-pub record Fits (values : List ℤ) (a : Place) : Type 0 where
+pub record Fits (values : List ℤ) (a : KeptSymbol) : Type 0 where
   pub few : a.arity ≤ 8
   pub within : HasParamsWithin a.kind (a.link + a.arity) (length values)
 
-abbrev pub AllFit : List ℤ → List Place → Type 0
+abbrev pub AllFit : List ℤ → List KeptSymbol → Type 0
 AllFit values [] = Unit {0}
 AllFit values (a ∷ more) = Fits values a × AllFit values more
 
 -- each module's parameters are there, and each bracket's mate is told
-pub record IsSoundRow (places : List Place) (values : List ℤ) : Type 0 where
+pub record IsSoundRow (places : List KeptSymbol) (values : List ℤ) : Type 0 where
   pub fit : AllFit values places
-  pub mates : (p : ℕ) (a : Place) → slice_get places p ≡ Some a → IsBracket (spotted values a).seen → IsMate (map (spotted values) places) p a.link
+  pub mates : (p : ℕ) (a : KeptSymbol) → slice_get places p ≡ Some a → IsBracket (spotted values a).seen → IsMate (map (spotted values) places) p a.link
 
 -- a bracket as it is kept
-abbrev pub bracket_place : Kind → ℕ → ℕ → ℕ → Place
+abbrev pub bracket_place : KeptKind → ℕ → ℕ → ℕ → KeptSymbol
 bracket_place kind mate t k =
     record { key = k; name = 43 ∷ []; link = mate; tag = t; arity = 0; kind = kind }
 

@@ -10,7 +10,7 @@ use std::mem::size_of;
 
 /// What a kept symbol is.
 #[derive(Clone, Copy)]
-pub(crate) enum Kind {
+pub(crate) enum KeptKind {
     /// `[`
     Push,
     /// `]`
@@ -20,7 +20,7 @@ pub(crate) enum Kind {
 
 /// A symbol as it is kept, in 32 bytes.
 #[derive(Clone, Copy)]
-pub(crate) struct Place {
+pub(crate) struct KeptSymbol {
     pub(crate) key: u64,
     /// The name of a module; a bracket's is never read.
     pub(crate) name: Name,
@@ -29,37 +29,37 @@ pub(crate) struct Place {
     pub(crate) tag: Tag,
     /// How many parameters there are.
     pub(crate) arity: u8,
-    pub(crate) kind: Kind,
+    pub(crate) kind: KeptKind,
 }
 
-const _: () = prove!(size_of::<Place>() == 32);
+const _: () = prove!(size_of::<KeptSymbol>() == 32);
 
-impl Place {
+impl KeptSymbol {
     /// The symbol with its tag and its key; its mate's place if it is a bracket, and where its parameters begin if it
     /// is a module.
-    pub(crate) fn of(symbol: &Symbol, mate: usize, start: usize, tag: Tag, key: u64) -> Place
+    pub(crate) fn of(symbol: &Symbol, mate: usize, start: usize, tag: Tag, key: u64) -> KeptSymbol
         requires { symbol.now ≢ Cut }
         ensures { result ≡ kept_place symbol.now mate start tag key }
     {
         match symbol {
-            Symbol::Push => Place::bracket(Kind::Push, mate, tag, key),
-            Symbol::Pop => Place::bracket(Kind::Pop, mate, tag, key),
-            Symbol::Module(module) => Place {
+            Symbol::Push => KeptSymbol::bracket(KeptKind::Push, mate, tag, key),
+            Symbol::Pop => KeptSymbol::bracket(KeptKind::Pop, mate, tag, key),
+            Symbol::Module(module) => KeptSymbol {
                 key,
                 name: module.name,
                 link: start,
                 tag,
                 arity: module.params.values().len() as u8,
-                kind: Kind::Module,
+                kind: KeptKind::Module,
             },
             Symbol::Cut => unreachable!(),
         }
     }
 
-    fn bracket(kind: Kind, mate: usize, tag: Tag, key: u64) -> Place
+    fn bracket(kind: KeptKind, mate: usize, tag: Tag, key: u64) -> KeptSymbol
         ensures { result ≡ bracket_place kind mate tag key }
     {
-        Place {
+        KeptSymbol {
             key,
             name: Name::from_mark(b'+'),
             link: mate,

@@ -7,7 +7,7 @@ ghost use Rattle.lsys_level.specs.Views.{seen_of, HasFewParams};
 ghost use Rattle.lsys_level.specs.Places.{spots_of, has_cut};
 
 use crate::mates::mates_of;
-use crate::place::{Kind, Place, params_of};
+use crate::place::{KeptKind, KeptSymbol, params_of};
 use crate::sight::Sight;
 use crate::tag::Tag;
 use lsys_module::Symbol;
@@ -17,7 +17,7 @@ use std::marker::Model;
 /// The symbols of a level, and the parameters of all its modules, one module after the other.
 #[derive(Drop)]
 pub(crate) struct Row {
-    places: Vec<Place>,
+    places: Vec<KeptSymbol>,
     values: Vec<i64>,
 }
 
@@ -52,7 +52,7 @@ impl Row {
         let mut values = Vec::with_capacity(alloc, count_params(symbols))?;
         for place in 0..symbols.len() {
             let start = values.len();
-            let kept = Place::of(
+            let kept = KeptSymbol::of(
                 &symbols[place],
                 mates[place],
                 start,
@@ -86,9 +86,9 @@ impl Row {
     {
         let kept = self.places[place];
         match kept.kind {
-            Kind::Push => Sight::Push,
-            Kind::Pop => Sight::Pop,
-            Kind::Module => Sight::Module {
+            KeptKind::Push => Sight::Push,
+            KeptKind::Pop => Sight::Pop,
+            KeptKind::Module => Sight::Module {
                 name: kept.name,
                 params: part(self.values.as_slice(), kept.link, kept.arity as usize),
             },

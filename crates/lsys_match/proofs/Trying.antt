@@ -20,8 +20,8 @@ use Rattle.lsys_walks.specs.Noted.{Noted, entry_by}
 use Rattle.lsys_walks.specs.Views.{module_named}
 use Rattle.lsys_walks.specs.Walked.{ReadsFront}
 use Rattle.lsys_match.specs.Sites.{Site, rule_told}
-use Rattle.lsys_match.specs.declared.outcome.Outcome.{Outcome as CodeOutcome}
-use Rattle.lsys_match.specs.declared.outcome.Outcome.TheVariants as code
+use Rattle.lsys_match.specs.declared.outcome.RuleOutcome.{RuleOutcome}
+use Rattle.lsys_match.specs.declared.outcome.RuleOutcome.TheVariants as code
 use Rattle.lsys_match.specs.Tries.{IsTried, MayGoOn, outcome_by, decided_by, entries_by, tried_so_far}
 
 goes_on : (o : Outcome) (t : Told Found) (old new : List Entry) → new ≡ old ++ t.entries → length new ≤ most_entries → MayGoOn o t old new
@@ -54,7 +54,7 @@ module _ (t : Told Found) (d : Tried) (b : Body) (old new : List Entry) (bound :
   }
 
 -- a rule that applies doesn't read too many
-pub yes_few : (t : Told Found) (d : Tried) (b : Body) (old new : List Entry) (values : List ℤ) (o : CodeOutcome) → o ≡ code.Yes → IsTried t d b old new (outcome_by o values) → length new ≤ most_entries
+pub yes_few : (t : Told Found) (d : Tried) (b : Body) (old new : List Entry) (values : List ℤ) (o : RuleOutcome) → o ≡ code.Yes → IsTried t d b old new (outcome_by o values) → length new ≤ most_entries
 yes_few t d b old new values o e h = (subst (λ o. MayGoOn (outcome_by o values) t old new) e h.all).1
 
 -- at a site with these parts

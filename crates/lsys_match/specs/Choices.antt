@@ -11,7 +11,7 @@ use Rattle.lsys_rewrite.specs.declared.refusal.FaultKind.{FaultKind}
 use Rattle.lsys_match.specs.Groups.{meant, rules_of}
 use Rattle.lsys_match.specs.Sites.{Site, all_told, choice_told, first_told}
 use Rattle.lsys_match.specs.Tries.{entries_by, outcome_by}
-use Rattle.lsys_match.specs.declared.outcome.Outcome.{Outcome}
+use Rattle.lsys_match.specs.declared.outcome.RuleOutcome.{RuleOutcome}
 use Rattle.lsys_match.specs.declared.found.Applying.{Applying as CodeApplying}
 use Rattle.lsys_match.specs.declared.choice.Choice.{Choice}
 use Rattle.lsys_match.specs.declared.choice.Choice.TheVariants as code
@@ -63,7 +63,7 @@ abbrev pub applying : ℕ → List ℤ → ℕ → choice.Applying
 applying place values weight = record { place = place; values = values; weight = weight }
 
 -- what was found before, and this rule where it applies, or the fault
-abbrev pub ConsidersRule : {E : Type 0} → List choice.Applying → ℕ → CodeBody → Outcome → List ℤ
+abbrev pub ConsidersRule : {E : Type 0} → List choice.Applying → ℕ → CodeBody → RuleOutcome → List ℤ
     → List choice.Applying → Result (Option FaultKind) E → Type 0
 ConsidersRule old place b outcome values new r =
     IfOk r (λ k. found_with old place (meant b) (outcome_by outcome values) ≡ found_or_fault new k)

@@ -15,11 +15,11 @@ use Rattle.lsys_walks.specs.Readings.{Read}
 use Rattle.lsys_bodies.specs.declared.body.Body.{Body as CodeBody}
 use Rattle.lsys_match.specs.Groups.{meant}
 use Rattle.lsys_match.specs.Sites.{Site, rule_told}
-use Rattle.lsys_match.specs.declared.outcome.Outcome.{Outcome}
-use Rattle.lsys_match.specs.declared.outcome.Outcome.TheVariants as code
+use Rattle.lsys_match.specs.declared.outcome.RuleOutcome.{RuleOutcome}
+use Rattle.lsys_match.specs.declared.outcome.RuleOutcome.TheVariants as code
 
 -- the outcome, where these are the values of the rule's formals
-abbrev pub outcome_by : Outcome → List ℤ → choice.Outcome
+abbrev pub outcome_by : RuleOutcome → List ℤ → choice.Outcome
 outcome_by code.No values = choice.No
 outcome_by code.Yes values = choice.Yes values
 outcome_by (code.Fails k) values = choice.Fails (fault_of k)
@@ -57,18 +57,18 @@ decided_by walked.Missed b values = choice.No
 decided_by walked.TooFar b values = choice.Fails choice.TooFar
 
 -- the rule at a place of its group is tried
-abbrev pub Tries : {E : Type 0} → Site → ℕ → Body → List Noted → List Noted → List ℤ → Result Outcome E → Type 0
+abbrev pub Tries : {E : Type 0} → Site → ℕ → Body → List Noted → List Noted → List ℤ → Result RuleOutcome E → Type 0
 Tries s place b old new values r =
     (naming : ℕ → List ℕ) → let d = tried_so_far place old in
     IfOk r (λ o. IsTried (rule_told naming s d b) d b (entries_by naming old) (entries_by naming new) (outcome_by o values))
 
 -- the rule is tried, from one reading to the next
 abbrev pub TriesRule : {E : Type 0} → Site → ℕ → CodeBody → Read → Read → List ℤ
-    → Result Outcome E → Type 0
+    → Result RuleOutcome E → Type 0
 TriesRule s place b old new values r = Tries s place (meant b) old.read new.read values r
 
 -- before memory was wanting a front of it was read
-abbrev pub TriesFront : {E : Type 0} → Site → ℕ → Body → List Noted → List Noted → Result Outcome E → Type 0
+abbrev pub TriesFront : {E : Type 0} → Site → ℕ → Body → List Noted → List Noted → Result RuleOutcome E → Type 0
 TriesFront s place b old new r =
     (naming : ℕ → List ℕ) → let d = tried_so_far place old in
     OnErr r (ReadsFront (rule_told naming s d b) (entries_by naming old) (entries_by naming new))

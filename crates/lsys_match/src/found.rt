@@ -5,7 +5,7 @@ ghost use Rattle.lsys_match.specs.Choices.{applying, applying_of, choice_by, wei
 ghost use Rattle.lsys_match.specs.Groups.{meant};
 
 use crate::choice::Choice;
-use crate::outcome::Outcome;
+use crate::outcome::RuleOutcome;
 use lsys_bodies::SharedBody;
 use lsys_draw::{draw, pick};
 use lsys_expr::eval;
@@ -26,13 +26,13 @@ pub(crate) struct Applying {
 
 /// The rules that were found to apply, and the sum of their weights.
 #[derive(Drop)]
-pub(crate) struct Found {
+pub(crate) struct ApplyingRules {
     rules: Vec<Applying>,
     total: u64,
     alloc: Global,
 }
 
-impl Model for Found {
+impl Model for ApplyingRules {
     ghost use Rattle.std.specs.Prelude.{◌≡◌, ◌≤◌, List, map, sum};
     ghost use Rattle.lsys_syntax.specs.Limits.{greatest_weight};
     ghost use Rattle.lsys_spec.specs.Choice.{Applying, weights};
@@ -45,12 +45,12 @@ impl Model for Found {
     ghost invariant = { λ a. (a.total ≡ sum (weights (map applying_of a.rules.items))) × (a.total ≤ greatest_weight) };
 }
 
-impl Found {
+impl ApplyingRules {
     /// No rule. Takes no memory.
-    pub(crate) fn new(alloc: Global) -> Found
+    pub(crate) fn new(alloc: Global) -> ApplyingRules
         ensures { result ≡ [] }
     {
-        Found {
+        ApplyingRules {
             rules: Vec::new(alloc),
             total: 0,
             alloc,
@@ -62,16 +62,16 @@ impl Found {
         &mut self,
         place: u8,
         body: &SharedBody,
-        outcome: Outcome,
+        outcome: RuleOutcome,
         bound: &[i64],
     ) -> Result<Option<FaultKind>, AllocError>
         ensures found { ConsidersRule self.old place body.now outcome bound.now self.new result }
-        ensures refused { OnErr result (outcome ≡ Outcome.Yes) }
+        ensures refused { OnErr result (outcome ≡ RuleOutcome.Yes) }
     {
         match outcome {
-            Outcome::No => Ok(None),
-            Outcome::Fails(kind) => Ok(Some(kind)),
-            Outcome::Yes => match weigh(body, bound) {
+            RuleOutcome::No => Ok(None),
+            RuleOutcome::Fails(kind) => Ok(Some(kind)),
+            RuleOutcome::Yes => match weigh(body, bound) {
                 Ok(weight) => self.add(place, weight, bound),
                 Err(kind) => Ok(Some(kind)),
             },

@@ -9,7 +9,7 @@ use lsys_rewrite::FaultKind;
 
 /// The outcome of a rule at a module.
 #[derive(Clone, Copy, Drop)]
-pub(crate) enum Outcome {
+pub(crate) enum RuleOutcome {
     /// It doesn't apply.
     No,
     /// It applies.
@@ -19,15 +19,15 @@ pub(crate) enum Outcome {
 }
 
 // Of a rule whose contexts match, with these values of its formals.
-pub(crate) fn judge(body: &Body, bound: &[i64]) -> Outcome
+pub(crate) fn judge(body: &Body, bound: &[i64]) -> RuleOutcome
     ensures { outcome_by result bound.now ≡ judged_by (body_value body.now) bound.now }
 {
     let Some(condition) = &body.condition else {
-        return Outcome::Yes;
+        return RuleOutcome::Yes;
     };
     match holds(condition, bound) {
-        Ok(true) => Outcome::Yes,
-        Ok(false) => Outcome::No,
-        Err(fault) => Outcome::Fails(FaultKind::from(fault)),
+        Ok(true) => RuleOutcome::Yes,
+        Ok(false) => RuleOutcome::No,
+        Err(fault) => RuleOutcome::Fails(FaultKind::from(fault)),
     }
 }

@@ -10,9 +10,9 @@ ghost use Rattle.lsys_match.specs.Choices.{ChoosesByKey, ChoosesFirst, ChoosesFi
 ghost use Rattle.lsys_match.specs.Tries.{TriesFront, decided_by, outcome_by, TriesRule};
 
 use crate::choice::Choice;
-use crate::found::Found;
+use crate::found::ApplyingRules;
 use crate::group::Group;
-use crate::outcome::{Outcome, judge};
+use crate::outcome::{RuleOutcome, judge};
 use lsys_bodies::{Body, Filter, SharedBody};
 use lsys_level::LevelView;
 use lsys_rewrite::FaultKind;
@@ -82,7 +82,7 @@ impl<'a, W: LevelView> Site<'a, W> {
         trace: &mut Reading<'t>,
         bound: &mut Vec<i64>,
         visited: &mut Counter<V>,
-    ) -> Result<Outcome, AllocError>
+    ) -> Result<RuleOutcome, AllocError>
         requires room { length trace.old.read ≤ most_entries }
         ensures tried { TriesRule self.now place body.now trace.old trace.new bound.new.items result }
         ensures refused { TriesFront self.now place (meant body.now) trace.old.read trace.new.read result }
@@ -124,9 +124,9 @@ impl<'a, W: LevelView> Site<'a, W> {
         while let Some(body) = group.get(place) {
             let rule = place as u8;
             match self.try_rule(rule, body, trace, bound, visited)? {
-                Outcome::No => place += 1,
-                Outcome::Yes => return Ok(Choice::Chosen(rule)),
-                Outcome::Fails(kind) => return Ok(Choice::Failed(kind)),
+                RuleOutcome::No => place += 1,
+                RuleOutcome::Yes => return Ok(Choice::Chosen(rule)),
+                RuleOutcome::Fails(kind) => return Ok(Choice::Failed(kind)),
             }
         }
         Ok(Choice::NoRule)
@@ -136,7 +136,7 @@ impl<'a, W: LevelView> Site<'a, W> {
     pub(crate) fn find_all<'t, V: Ledger>(
         &self,
         group: &Group<'a>,
-        found: &mut Found,
+        found: &mut ApplyingRules,
         trace: &mut Reading<'t>,
         bound: &mut Vec<i64>,
         visited: &mut Counter<V>,
@@ -180,7 +180,7 @@ impl<'a, W: LevelView> Site<'a, W> {
         ensures same { trace.new.old ≡ trace.old.old }
         ensures counted { visited.new ≡ visited.old + length trace.new.read }
     {
-        let mut found = Found::new(alloc);
+        let mut found = ApplyingRules::new(alloc);
         if let Some(kind) = self.find_all(group, &mut found, trace, bound, visited)? {
             return Ok(Choice::Failed(kind));
         }
@@ -213,12 +213,12 @@ impl<'a, W: LevelView> Site<'a, W> {
 }
 
 // The outcome of a rule whose contexts were read so.
-fn decide(walked: Walked, body: &Body, bound: &[i64]) -> Outcome
+fn decide(walked: Walked, body: &Body, bound: &[i64]) -> RuleOutcome
     ensures { outcome_by result bound.now ≡ decided_by walked (body_value body.now) bound.now }
 {
     match walked {
         Walked::Found => judge(body, bound),
-        Walked::Missed => Outcome::No,
-        Walked::TooFar => Outcome::Fails(FaultKind::TooFar),
+        Walked::Missed => RuleOutcome::No,
+        Walked::TooFar => RuleOutcome::Fails(FaultKind::TooFar),
     }
 }

@@ -8,12 +8,12 @@ use Rattle.lsys_text.specs.Tokens.{kind_of}
 use Rattle.lsys_module.specs.declared.symbol.Symbol.{Symbol as Code}
 use Rattle.lsys_module.specs.declared.symbol.Symbol.TheVariants as modules
 use Rattle.lsys_module.specs.declared.symbol.Module.{Module as Module'}
-use Rattle.lsys_module.specs.declared.build.Part.{Part}
-use Rattle.lsys_module.specs.declared.build.Part.TheVariants as parts
+use Rattle.lsys_module.specs.declared.build.BuiltPart.{BuiltPart}
+use Rattle.lsys_module.specs.declared.build.BuiltPart.TheVariants as parts
 use Rattle.lsys_module.specs.declared.refusal.StringRefusal.{StringRefusal}
 use Rattle.lsys_module.specs.declared.refusal.StringRefusal.TheVariants.{TooMany, Memory}
-use Rattle.lsys_module.specs.declared.glyph.Glyph.{Glyph}
-use Rattle.lsys_module.specs.declared.glyph.Glyph.TheVariants.{Open}
+use Rattle.lsys_module.specs.declared.glyph.StringGlyph.{StringGlyph}
+use Rattle.lsys_module.specs.declared.glyph.StringGlyph.TheVariants.{Open}
 use Rattle.lsys_module.specs.Views.{module_name, symbol_of, string_of}
 use Rattle.lsys_module.specs.Scanning.{glyph_of}
 use Rattle.lsys_module.specs.Building.{Draft, whole, named, draft_step, draft_limit, kind_name, draft_by_part, CanTake, IsTaken}
@@ -25,11 +25,11 @@ string_of-append xs x = map-append symbol_of xs (x ∷ [])
 abbrev pub with_name : List (Symbol ℤ) → ModuleName → Draft
 with_name ys n = whole (ys ++ Module n [] ∷ [])
 
-pub named-step : (ys : List (Symbol ℤ)) (n : ModuleName) (g : Glyph) (m : ModuleName) → (g ≡ Open → ⊥) → draft_step (named ys n) g m ≡ draft_step (with_name ys n) g m
+pub named-step : (ys : List (Symbol ℤ)) (n : ModuleName) (g : StringGlyph) (m : ModuleName) → (g ≡ Open → ⊥) → draft_step (named ys n) g m ≡ draft_step (with_name ys n) g m
 named-step ys n Open m h = absurd (h refl)
 named-step ys n g m h = refl
 
-pub named-limit : (ys : List (Symbol ℤ)) (n : ModuleName) (g : Glyph) → (g ≡ Open → ⊥) → draft_limit (named ys n) g ≡ draft_limit (with_name ys n) g
+pub named-limit : (ys : List (Symbol ℤ)) (n : ModuleName) (g : StringGlyph) → (g ≡ Open → ⊥) → draft_limit (named ys n) g ≡ draft_limit (with_name ys n) g
 named-limit ys n Open h = absurd (h refl)
 named-limit ys n g h = refl
 
@@ -47,10 +47,10 @@ taken-same old new end t (Ok done) l s h = (l ∙ h.0, s ∙ h.1)
 taken-same old new end t (Err (TooMany column)) l s h = (l ∙ h.0, h.1)
 taken-same old new end t (Err Memory) l s h = tt
 
-same-limit : (old new : Draft) (ys : List (Symbol ℤ)) (n : ModuleName) (g : Glyph) → AreNamed old new ys n → (g ≡ Open → ⊥) → draft_limit old g ≡ draft_limit new g
+same-limit : (old new : Draft) (ys : List (Symbol ℤ)) (n : ModuleName) (g : StringGlyph) → AreNamed old new ys n → (g ≡ Open → ⊥) → draft_limit old g ≡ draft_limit new g
 same-limit old new ys n g h other = rw (h.name, h.symbol) (named-limit ys n g other)
 
-same-step : (old new : Draft) (ys : List (Symbol ℤ)) (n : ModuleName) (g : Glyph) (m : ModuleName) → AreNamed old new ys n → (g ≡ Open → ⊥) → draft_step old g m ≡ draft_step new g m
+same-step : (old new : Draft) (ys : List (Symbol ℤ)) (n : ModuleName) (g : StringGlyph) (m : ModuleName) → AreNamed old new ys n → (g ≡ Open → ⊥) → draft_step old g m ≡ draft_step new g m
 same-step old new ys n g m h other = rw (h.name, h.symbol) (named-step ys n g m other)
 
 -- a string that goes on after the name goes on after its symbol
@@ -64,7 +64,7 @@ named-taken old new end ys n t r h other is =
     taken-same old new end t r (same-limit old new ys n g h other) (same-step old new ys n g (kind_name (kind_of t.kind)) h other) is
 
 -- the symbol of a name was added
-pub are_named : (part part' : Part) (symbols symbols' : List Code) (name : List ℕ) (last : Module') → part ≡ parts.Named name → part' ≡ parts.Whole → symbols' ≡ symbols ++ modules.Module last ∷ [] → last.name ≡ name → last.params ≡ []
+pub are_named : (part part' : BuiltPart) (symbols symbols' : List Code) (name : List ℕ) (last : Module') → part ≡ parts.Named name → part' ≡ parts.Whole → symbols' ≡ symbols ++ modules.Module last ∷ [] → last.name ≡ name → last.params ≡ []
     → AreNamed (draft_by_part part (string_of symbols)) (draft_by_part part' (string_of symbols')) (string_of symbols) (module_name name)
 are_named part part' symbols symbols' name last p q s n z = record {
   name = ap (λ x. draft_by_part x (string_of symbols)) p;

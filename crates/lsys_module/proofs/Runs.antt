@@ -7,7 +7,7 @@ use Rattle.lsys_syntax.specs.Pieces.{Piece, token, note, a_symbol, a_param, kind
 use Rattle.lsys_syntax.specs.Strings.{ModuleName, named, plus, minus, ampersand, caret, backslash, slash, bar, bang, name_kind, Symbol, Module, Push, Pop, Cut, Signed, unsigned, minus_sign, negative, signed_value, signed_pieces, more_pieces, symbol_pieces, gap, ends_in_name, begins_with_letter, string_pieces, EachOf, IsSymbol, IsSigned}
 use Rattle.lsys_syntax.specs.Checks.{Counts, passes_limit, many_place}
 use Rattle.lsys_spec.specs.Edits.{values_of}
-use Rattle.lsys_module.specs.declared.glyph.Glyph.TheVariants as glyphs
+use Rattle.lsys_module.specs.declared.glyph.StringGlyph.TheVariants as glyphs
 use Rattle.lsys_module.specs.Scanning.{glyph_of}
 use Rattle.lsys_module.specs.Building as B
 use Rattle.lsys_module.specs.Building.{Draft, whole, number_due, minus_read, number_read, draft_step, draft_limit, draft_end, kind_name}

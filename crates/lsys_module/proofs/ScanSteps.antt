@@ -6,8 +6,8 @@ use Rattle.lsys_syntax.specs.Tokens as syntax
 use Rattle.lsys_syntax.specs.LineMachine.{Symbols, stops}
 use Rattle.lsys_text.specs.declared.token_kind.Token.{Token}
 use Rattle.lsys_text.specs.Tokens.{kind_of, kind_row}
-use Rattle.lsys_module.specs.declared.glyph.Glyph.{Glyph}
-use Rattle.lsys_module.specs.declared.scan.Spot.TheVariants.{Between}
+use Rattle.lsys_module.specs.declared.glyph.StringGlyph.{StringGlyph}
+use Rattle.lsys_module.specs.declared.scan.ScanSpot.TheVariants.{Between}
 use Rattle.lsys_module.specs.declared.scan.Progress.{Progress}
 use Rattle.lsys_module.specs.Scanning.{string_verdict, TellsString, glyph_of, progress_step, may_end, refused_from}
 use Rattle.lsys_module.proofs.Scanned.{IsVerdict, after_step, refused-step, scan-verdict}
@@ -24,7 +24,7 @@ abbrev pub begun : Progress
 begun = record { spot = Between false; branches = 0 }
 
 -- one token on
-pub refused-turn : (tokens : List Token) (i : ℕ) (t : Token) (p : Progress) (g : Glyph) (o : Option Progress) → i < length tokens → t ≡ get_or tokens i t → g ≡ glyph_of (kind_of (get_or tokens i t).kind) → o ≡ progress_step p g
+pub refused-turn : (tokens : List Token) (i : ℕ) (t : Token) (p : Progress) (g : StringGlyph) (o : Option Progress) → i < length tokens → t ≡ get_or tokens i t → g ≡ glyph_of (kind_of (get_or tokens i t).kind) → o ≡ progress_step p g
     → refused_from i p (drop i (kind_row tokens)) ≡ after_step i (drop (i + 1) (kind_row tokens)) o
 refused-turn tokens i t p g o h e glyph is =
     let rest = drop (i + 1) (kind_row tokens) in

@@ -6,8 +6,8 @@ use Rattle.lsys_syntax.specs.RuleMachine.{reversed, reversed_onto, open_in, wher
 use Rattle.lsys_syntax.specs.Commands.{set_axiom}
 use Rattle.lsys_syntax.specs.LineMachine.{AxiomState, Symbols, NumberDue, MinusRead, NumberRead, State, InAxiom, Stop, axiom_popped, if_small, axiom_step, axiom_symbols_step, number_due_step, minus_step, number_read_step, Verdict, stops, sentence_or_stop, is_stop, line_depth, nesting_bound, verdict_from}
 use Rattle.lsys_syntax.proofs.LineSound.{after_tests, verdict-tests}
-use Rattle.lsys_module.specs.declared.scan.Spot.{Spot}
-use Rattle.lsys_module.specs.declared.scan.Spot.TheVariants as spots
+use Rattle.lsys_module.specs.declared.scan.ScanSpot.{ScanSpot}
+use Rattle.lsys_module.specs.declared.scan.ScanSpot.TheVariants as spots
 use Rattle.lsys_module.specs.declared.scan.Progress.{Progress}
 use Rattle.lsys_module.specs.Scanning.{TellsString, glyph_of, branch_closed, params_opened, between_step, param_step, progress_step, may_end, refused_from}
 
@@ -64,7 +64,7 @@ symbols-step r syntax.LeftParen = symbols-opened r
 symbols-step r k = refl
 
 -- in parentheses, with so many open branches
-abbrev within : ℕ → Option Spot → Option Progress
+abbrev within : ℕ → Option ScanSpot → Option Progress
 within m None = None
 within m (Some s) = Some (record { spot = s; branches = m })
 
@@ -91,7 +91,7 @@ number_read-step r n z zs syntax.RightParen =
     (Symbols (Module n (reversed (z ∷ zs)) ∷ r), refl, ap (λ b. record { spot = spots.Between b; branches = open_in r }) (bare-behind n [] z zs r), tt)
 number_read-step r n z zs k = refl
 
-along : (o : Option Spot) (m : ℕ) (s : State) → StepsTo (within m o) s → StepsTo (option_map (λ spot. record { spot = spot; branches = m }) o) s
+along : (o : Option ScanSpot) (m : ℕ) (s : State) → StepsTo (within m o) s → StepsTo (option_map (λ spot. record { spot = spot; branches = m }) o) s
 along None m s h = h
 along (Some spot) m s h = h
 

@@ -15,10 +15,10 @@ use Rattle.lsys_module.specs.declared.symbol.Symbol.{Symbol as CodeSymbol}
 use Rattle.lsys_module.specs.declared.refusal.StringRefusal.{StringRefusal}
 use Rattle.lsys_module.specs.declared.refusal.StringRefusal.TheVariants.{TooMany, Memory}
 use Rattle.lsys_module.specs.declared.build.Builder.{Builder}
-use Rattle.lsys_module.specs.declared.build.Part.{Part}
-use Rattle.lsys_module.specs.declared.build.Part.TheVariants as parts
-use Rattle.lsys_module.specs.declared.glyph.Glyph.{Glyph}
-use Rattle.lsys_module.specs.declared.glyph.Glyph.TheVariants as glyphs
+use Rattle.lsys_module.specs.declared.build.BuiltPart.{BuiltPart}
+use Rattle.lsys_module.specs.declared.build.BuiltPart.TheVariants as parts
+use Rattle.lsys_module.specs.declared.glyph.StringGlyph.{StringGlyph}
+use Rattle.lsys_module.specs.declared.glyph.StringGlyph.TheVariants as glyphs
 use Rattle.lsys_module.specs.Views.{module_name, string_of}
 use Rattle.lsys_module.specs.Scanning.{glyph_of}
 
@@ -58,13 +58,13 @@ abbrev pub kind_name : Kind → ModuleName
 kind_name k = sign_name (sign_of k)
 
 -- the tokens that are a module's name
-abbrev pub is_name : Glyph → Bool
+abbrev pub is_name : StringGlyph → Bool
 is_name glyphs.Name = true
 is_name glyphs.Minus = true
 is_name g = false
 
 -- another symbol begins; a name is that of the token
-abbrev pub next_symbol_step : List (Symbol ℤ) → Glyph → ModuleName → Option Draft
+abbrev pub next_symbol_step : List (Symbol ℤ) → StringGlyph → ModuleName → Option Draft
 next_symbol_step ys glyphs.Name m = Some (named ys m)
 next_symbol_step ys glyphs.Minus m = Some (named ys m)
 next_symbol_step ys glyphs.Push m = Some (whole (ys ++ Push ∷ []))
@@ -72,38 +72,38 @@ next_symbol_step ys glyphs.Pop m = Some (whole (ys ++ Pop ∷ []))
 next_symbol_step ys glyphs.Cut m = Some (whole (ys ++ Cut ∷ []))
 next_symbol_step ys g m = None
 
-abbrev pub named_step : List (Symbol ℤ) → ModuleName → Glyph → ModuleName → Option Draft
+abbrev pub named_step : List (Symbol ℤ) → ModuleName → StringGlyph → ModuleName → Option Draft
 named_step ys n glyphs.Open m = Some (number_due ys n [])
 named_step ys n g m = next_symbol_step (ys ++ Module n [] ∷ []) g m
 
-abbrev pub before_number_step : List (Symbol ℤ) → ModuleName → List ℤ → Glyph → Option Draft
+abbrev pub before_number_step : List (Symbol ℤ) → ModuleName → List ℤ → StringGlyph → Option Draft
 before_number_step ys n zs (glyphs.Number m) = if nat_lt m value_bound then Some (number_read ys n (zs ++ pos m ∷ [])) else None
 before_number_step ys n zs glyphs.Minus = Some (minus_read ys n zs)
 before_number_step ys n zs g = None
 
-abbrev pub after_minus_step : List (Symbol ℤ) → ModuleName → List ℤ → Glyph → Option Draft
+abbrev pub after_minus_step : List (Symbol ℤ) → ModuleName → List ℤ → StringGlyph → Option Draft
 after_minus_step ys n zs (glyphs.Number m) = if nat_lt (length zs) most_params && nat_le m value_bound then Some (number_read ys n (zs ++ negative m ∷ [])) else None
 after_minus_step ys n zs g = None
 
-abbrev pub after_number_step : List (Symbol ℤ) → ModuleName → List ℤ → Glyph → Option Draft
+abbrev pub after_number_step : List (Symbol ℤ) → ModuleName → List ℤ → StringGlyph → Option Draft
 after_number_step ys n zs glyphs.Comma = Some (number_due ys n zs)
 after_number_step ys n zs glyphs.Close = Some (whole (ys ++ Module n zs ∷ []))
 after_number_step ys n zs g = None
 
 -- one more token, where a string goes on with it
-abbrev pub draft_step : Draft → Glyph → ModuleName → Option Draft
+abbrev pub draft_step : Draft → StringGlyph → ModuleName → Option Draft
 draft_step (whole ys) g m = next_symbol_step ys g m
 draft_step (named ys n) g m = named_step ys n g m
 draft_step (number_due ys n zs) g m = before_number_step ys n zs g
 draft_step (minus_read ys n zs) g m = after_minus_step ys n zs g
 draft_step (number_read ys n zs) g m = after_number_step ys n zs g
 
-abbrev pub named_limit : List (Symbol ℤ) → ModuleName → Glyph → Bool
+abbrev pub named_limit : List (Symbol ℤ) → ModuleName → StringGlyph → Bool
 named_limit ys n glyphs.Open = false
 named_limit ys n g = nat_lt most_axiom_symbols (length (ys ++ Module n [] ∷ []) + 1)
 
 -- this token begins one symbol or one parameter too many
-abbrev pub draft_limit : Draft → Glyph → Bool
+abbrev pub draft_limit : Draft → StringGlyph → Bool
 draft_limit (whole ys) g = nat_lt most_axiom_symbols (length ys + 1)
 draft_limit (named ys n) g = named_limit ys n g
 draft_limit (number_due ys n zs) g = nat_lt most_params (length zs + 1)
@@ -115,7 +115,7 @@ draft_end (whole ys) = Some ys
 draft_end (named ys n) = Some (ys ++ Module n [] ∷ [])
 draft_end d = None
 
-abbrev pub draft_by_part : Part → List (Symbol ℤ) → Draft
+abbrev pub draft_by_part : BuiltPart → List (Symbol ℤ) → Draft
 draft_by_part parts.Whole ys = whole ys
 draft_by_part (parts.Named name) ys = named ys (module_name name)
 draft_by_part (parts.NumberDue m) ys = number_due ys (module_name m.name) m.params
@@ -123,12 +123,12 @@ draft_by_part (parts.MinusRead m) ys = minus_read ys (module_name m.name) m.para
 draft_by_part (parts.NumberRead m) ys = number_read ys (module_name m.name) m.params
 
 -- the last module goes on so with a token, where a number or a sign was due
-abbrev pub IsPartBehindDue : CodeModule → Glyph → Part → Type 0
+abbrev pub IsPartBehindDue : CodeModule → StringGlyph → BuiltPart → Type 0
 IsPartBehindDue m g part =
     (ys : List (Symbol ℤ)) → before_number_step ys (module_name m.name) m.params g ≡ Some (draft_by_part part ys)
 
 -- the last module goes on so with a token after a sign
-abbrev pub IsPartBehindMinus : CodeModule → Glyph → Part → Type 0
+abbrev pub IsPartBehindMinus : CodeModule → StringGlyph → BuiltPart → Type 0
 IsPartBehindMinus m g part =
     (ys : List (Symbol ℤ)) → after_minus_step ys (module_name m.name) m.params g ≡ Some (draft_by_part part ys)
 

@@ -9,10 +9,10 @@ use Rattle.lsys_text.specs.declared.token_kind.Token.{Token}
 use Rattle.lsys_text.specs.declared.refusals.PlaceRefusal.{PlaceRefusal}
 use Rattle.lsys_text.specs.declared.refusals.PlaceRefusal.TheVariants as refusals
 use Rattle.lsys_text.specs.Tokens.{kind_row}
-use Rattle.lsys_module.specs.declared.glyph.Glyph.{Glyph}
-use Rattle.lsys_module.specs.declared.glyph.Glyph.TheVariants.{Name, Minus, Push, Pop, Cut, Open, Close, Comma, Number, Other}
-use Rattle.lsys_module.specs.declared.scan.Spot.{Spot}
-use Rattle.lsys_module.specs.declared.scan.Spot.TheVariants.{Between, NumberDue, MinusRead, NumberRead}
+use Rattle.lsys_module.specs.declared.glyph.StringGlyph.{StringGlyph}
+use Rattle.lsys_module.specs.declared.glyph.StringGlyph.TheVariants.{Name, Minus, Push, Pop, Cut, Open, Close, Comma, Number, Other}
+use Rattle.lsys_module.specs.declared.scan.ScanSpot.{ScanSpot}
+use Rattle.lsys_module.specs.declared.scan.ScanSpot.TheVariants.{Between, NumberDue, MinusRead, NumberRead}
 use Rattle.lsys_module.specs.declared.scan.Progress.{Progress}
 
 -- the verdict on the tokens from a place on, read as a string
@@ -30,7 +30,7 @@ IsScanned v (Err (refusals.Token place)) = v ≡ stops place
 IsScanned v (Err (refusals.Deep place)) = ⊥
 
 -- what a token is to a string
-abbrev pub glyph_of : syntax.Kind → Glyph
+abbrev pub glyph_of : syntax.Kind → StringGlyph
 glyph_of (syntax.Name n) = Name
 glyph_of syntax.Plus = Name
 glyph_of syntax.Minus = Minus
@@ -59,7 +59,7 @@ params_opened true branches = Some (record { spot = NumberDue; branches = branch
 params_opened false branches = None
 
 -- between symbols, of which the last one is a module without parameters or not
-abbrev pub between_step : Glyph → Bool → ℕ → Option Progress
+abbrev pub between_step : StringGlyph → Bool → ℕ → Option Progress
 between_step Name bare branches = Some (record { spot = Between true; branches = branches })
 between_step Minus bare branches = Some (record { spot = Between true; branches = branches })
 between_step Push bare branches = Some (record { spot = Between false; branches = branches + 1 })
@@ -69,7 +69,7 @@ between_step Open bare branches = params_opened bare branches
 between_step g bare branches = None
 
 -- in parentheses
-abbrev pub param_step : Spot → Glyph → Option Spot
+abbrev pub param_step : ScanSpot → StringGlyph → Option ScanSpot
 param_step NumberDue (Number n) = if nat_lt n value_bound then Some NumberRead else None
 param_step NumberDue Minus = Some MinusRead
 param_step MinusRead (Number n) = if nat_le n value_bound then Some NumberRead else None
@@ -77,16 +77,16 @@ param_step NumberRead Comma = Some NumberDue
 param_step NumberRead Close = Some (Between false)
 param_step s g = None
 
-abbrev pub spot_step : Spot → ℕ → Glyph → Option Progress
+abbrev pub spot_step : ScanSpot → ℕ → StringGlyph → Option Progress
 spot_step (Between bare) branches g = between_step g bare branches
 spot_step s branches g = option_map (λ spot. record { spot = spot; branches = branches }) (param_step s g)
 
 -- one more token, where a string goes on with it
-abbrev pub progress_step : Progress → Glyph → Option Progress
+abbrev pub progress_step : Progress → StringGlyph → Option Progress
 progress_step p g = spot_step p.spot p.branches g
 
 -- a string may end here
-abbrev pub may_end : Spot → ℕ → Bool
+abbrev pub may_end : ScanSpot → ℕ → Bool
 may_end (Between bare) zero = true
 may_end s branches = false
 

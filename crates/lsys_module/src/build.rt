@@ -7,7 +7,7 @@ ghost use Rattle.lsys_module.specs.Views.{module_name, string_of};
 ghost use Rattle.lsys_module.specs.Scanning.{string_verdict, TellsString, glyph_of};
 ghost use Rattle.lsys_module.specs.Building.{AreOfLine, IsBuiltBy, CanTake, IsTaken, draft_of, draft_end, before_number_step, after_minus_step, is_name, kind_name, IsPartBehindDue, IsPartBehindMinus};
 
-use crate::glyph::Glyph;
+use crate::glyph::StringGlyph;
 use crate::params::Params;
 use crate::refusal::StringRefusal;
 use crate::symbol::{Module, Symbol};
@@ -40,7 +40,7 @@ pub fn build_string(
 {
     let mut builder = Builder {
         symbols: SymbolList::new(alloc),
-        part: Part::Whole,
+        part: BuiltPart::Whole,
     };
     for place in from..tokens.len() {
         let token = tokens[place];
@@ -51,7 +51,7 @@ pub fn build_string(
 
 /// What was read after the symbols that are whole.
 #[derive(Clone, Copy)]
-pub(crate) enum Part {
+pub(crate) enum BuiltPart {
     /// Nothing.
     Whole,
     /// A name, after which a `(` may follow.
@@ -68,7 +68,7 @@ pub(crate) enum Part {
 #[derive(Drop)]
 pub(crate) struct Builder {
     pub(crate) symbols: SymbolList,
-    pub(crate) part: Part,
+    pub(crate) part: BuiltPart,
 }
 
 impl Builder {
@@ -81,20 +81,20 @@ impl Builder {
     {
         let part = self.part;
         match part {
-            Part::Whole => self.take_symbol(token),
-            Part::Named(name) => self.take_behind_name(name, token),
-            Part::NumberDue(module) => {
+            BuiltPart::Whole => self.take_symbol(token),
+            BuiltPart::Named(name) => self.take_behind_name(name, token),
+            BuiltPart::NumberDue(module) => {
                 if module.params.values().len() >= MOST_PARAMS {
                     return Err(too_many(token));
                 }
-                self.part = behind_due(module, Glyph::of(token.kind));
+                self.part = behind_due(module, StringGlyph::of(token.kind));
                 Ok(())
             }
-            Part::MinusRead(module) => {
-                self.part = behind_minus(module, Glyph::of(token.kind));
+            BuiltPart::MinusRead(module) => {
+                self.part = behind_minus(module, StringGlyph::of(token.kind));
                 Ok(())
             }
-            Part::NumberRead(module) => self.take_behind_number(module, token),
+            BuiltPart::NumberRead(module) => self.take_behind_number(module, token),
         }
     }
 
@@ -102,12 +102,12 @@ impl Builder {
     fn take_behind_name(&mut self, name: Name, token: Token) -> Result<(), StringRefusal>
         requires form { IsToken (kind_of token.kind) }
         requires text { token.start < token.end }
-        requires behind_name { self.old.part ≡ Part.Named name }
+        requires behind_name { self.old.part ≡ BuiltPart.Named name }
         requires goes_on { CanTake (draft_of self.old) (kind_of token.kind) }
         ensures { IsTaken (draft_of self.old) token (draft_of self.new) result }
     {
-        if let Glyph::Open = Glyph::of(token.kind) {
-            self.part = Part::NumberDue(bare(name));
+        if let StringGlyph::Open = StringGlyph::of(token.kind) {
+            self.part = BuiltPart::NumberDue(bare(name));
             return Ok(());
         }
         self.add(bare(name))?;
@@ -116,13 +116,13 @@ impl Builder {
 
     // Reads a token after a parameter.
     fn take_behind_number(&mut self, last: Module, token: Token) -> Result<(), StringRefusal>
-        requires behind_number { self.old.part ≡ Part.NumberRead last }
+        requires behind_number { self.old.part ≡ BuiltPart.NumberRead last }
         requires goes_on { CanTake (draft_of self.old) (kind_of token.kind) }
         ensures { IsTaken (draft_of self.old) token (draft_of self.new) result }
     {
-        match Glyph::of(token.kind) {
-            Glyph::Comma => self.part = Part::NumberDue(last),
-            Glyph::Close => self.add(last)?,
+        match StringGlyph::of(token.kind) {
+            StringGlyph::Comma => self.part = BuiltPart::NumberDue(last),
+            StringGlyph::Close => self.add(last)?,
             _ => unreachable!(),
         }
         Ok(())
@@ -132,19 +132,19 @@ impl Builder {
     fn take_symbol(&mut self, token: Token) -> Result<(), StringRefusal>
         requires form { IsToken (kind_of token.kind) }
         requires text { token.start < token.end }
-        requires between { self.old.part ≡ Part.Whole }
+        requires between { self.old.part ≡ BuiltPart.Whole }
         requires goes_on { CanTake (draft_of self.old) (kind_of token.kind) }
         ensures { IsTaken (draft_of self.old) token (draft_of self.new) result }
     {
         if self.symbols.len() >= MOST_SYMBOLS {
             return Err(too_many(token));
         }
-        let symbol = match Glyph::of(token.kind) {
-            Glyph::Push => Symbol::Push,
-            Glyph::Pop => Symbol::Pop,
-            Glyph::Cut => Symbol::Cut,
-            Glyph::Name | Glyph::Minus => {
-                self.part = Part::Named(name_of(token.kind));
+        let symbol = match StringGlyph::of(token.kind) {
+            StringGlyph::Push => Symbol::Push,
+            StringGlyph::Pop => Symbol::Pop,
+            StringGlyph::Cut => Symbol::Cut,
+            StringGlyph::Name | StringGlyph::Minus => {
+                self.part = BuiltPart::Named(name_of(token.kind));
                 return Ok(());
             }
             _ => unreachable!(),
@@ -156,10 +156,10 @@ impl Builder {
     // Adds a module that is whole.
     fn add(&mut self, last: Module) -> Result<(), AllocError>
         ensures added { OnOk result (self.new.symbols ≡ self.old.symbols ++ Symbol.Module last ∷ []) }
-        ensures whole { OnOk result (self.new.part ≡ Part.Whole) }
+        ensures whole { OnOk result (self.new.part ≡ BuiltPart.Whole) }
     {
         self.symbols.push(Symbol::Module(last))?;
-        self.part = Part::Whole;
+        self.part = BuiltPart::Whole;
         Ok(())
     }
 
@@ -170,8 +170,8 @@ impl Builder {
     {
         let Builder { mut symbols, part } = self;
         match part {
-            Part::Whole => Ok(symbols),
-            Part::Named(name) => {
+            BuiltPart::Whole => Ok(symbols),
+            BuiltPart::Named(name) => {
                 symbols.push(Symbol::Module(bare(name)))?;
                 Ok(symbols)
             }
@@ -192,28 +192,28 @@ fn bare(name: Name) -> Module
 }
 
 // After a number or a sign that was due.
-fn behind_due(last: Module, glyph: Glyph) -> Part
+fn behind_due(last: Module, glyph: StringGlyph) -> BuiltPart
     requires few { length last.params < 8 }
     requires goes_on { IsSome (before_number_step [] (module_name last.name) last.params glyph) }
     ensures { IsPartBehindDue last glyph result }
 {
     match glyph {
-        Glyph::Number(number) => Part::NumberRead(Module {
+        StringGlyph::Number(number) => BuiltPart::NumberRead(Module {
             params: last.params.and(number as i64),
             ..last
         }),
-        Glyph::Minus => Part::MinusRead(last),
+        StringGlyph::Minus => BuiltPart::MinusRead(last),
         _ => unreachable!(),
     }
 }
 
 // After a number that follows a sign.
-fn behind_minus(last: Module, glyph: Glyph) -> Part
+fn behind_minus(last: Module, glyph: StringGlyph) -> BuiltPart
     requires { IsSome (after_minus_step [] (module_name last.name) last.params glyph) }
     ensures { IsPartBehindMinus last glyph result }
 {
     match glyph {
-        Glyph::Number(number) => Part::NumberRead(Module {
+        StringGlyph::Number(number) => BuiltPart::NumberRead(Module {
             params: last.params.and(negated(number)),
             ..last
         }),

@@ -7,7 +7,7 @@ use lsys_text::TokenKind;
 
 /// What a token is to a string.
 #[derive(Clone, Copy)]
-pub(crate) enum Glyph {
+pub(crate) enum StringGlyph {
     /// A module's name, but for `-`.
     Name,
     /// `-`: the name of a module, or a sign.
@@ -29,31 +29,31 @@ pub(crate) enum Glyph {
     Other,
 }
 
-impl Glyph {
-    pub(crate) fn of(kind: TokenKind) -> Glyph
+impl StringGlyph {
+    pub(crate) fn of(kind: TokenKind) -> StringGlyph
         ensures { result ≡ glyph_of (kind_of kind) }
     {
         match kind {
-            TokenKind::Name(_) => Glyph::Name,
-            TokenKind::Number(number) => Glyph::Number(number),
-            TokenKind::Mark(mark) => Glyph::of_mark(mark),
-            _ => Glyph::Other,
+            TokenKind::Name(_) => StringGlyph::Name,
+            TokenKind::Number(number) => StringGlyph::Number(number),
+            TokenKind::Mark(mark) => StringGlyph::of_mark(mark),
+            _ => StringGlyph::Other,
         }
     }
 
-    fn of_mark(mark: u8) -> Glyph
+    fn of_mark(mark: u8) -> StringGlyph
         ensures { result ≡ glyph_of (mark_kind mark) }
     {
         match mark {
-            b'+' | b'&' | b'^' | b'\\' | b'/' | b'|' | b'!' => Glyph::Name,
-            b'-' => Glyph::Minus,
-            b'[' => Glyph::Push,
-            b']' => Glyph::Pop,
-            b'%' => Glyph::Cut,
-            b'(' => Glyph::Open,
-            b')' => Glyph::Close,
-            b',' => Glyph::Comma,
-            _ => Glyph::Other,
+            b'+' | b'&' | b'^' | b'\\' | b'/' | b'|' | b'!' => StringGlyph::Name,
+            b'-' => StringGlyph::Minus,
+            b'[' => StringGlyph::Push,
+            b']' => StringGlyph::Pop,
+            b'%' => StringGlyph::Cut,
+            b'(' => StringGlyph::Open,
+            b')' => StringGlyph::Close,
+            b',' => StringGlyph::Comma,
+            _ => StringGlyph::Other,
         }
     }
 }

@@ -6,7 +6,7 @@ ghost use Rattle.lsys_module.specs.Scanning.{string_verdict, TellsString};
 ghost use Rattle.lsys_module.specs.Counting.{IsLimitPlace, counter_step, with_spot, with_symbol, with_param, spot_behind};
 
 use crate::build::{MOST_PARAMS, MOST_SYMBOLS};
-use crate::glyph::Glyph;
+use crate::glyph::StringGlyph;
 use lsys_text::Token;
 
 /// The token at which a string passes a limit: the first one of the first symbol past 4,096, or of the first parameter of
@@ -18,14 +18,14 @@ pub fn first_many(tokens: &[Token], from: usize) -> Option<usize>
     requires scanned { TellsString (string_verdict from tokens.now) }
     ensures { IsLimitPlace from (string_verdict from tokens.now) result }
 {
-    let mut counter = Counter {
-        spot: Spot::Outside,
+    let mut counter = StringCounts {
+        spot: CountSpot::Outside,
         symbols: 0,
         params: 0,
     };
     for place in from..tokens.len() {
         let token = tokens[place];
-        match counter.behind(Glyph::of(token.kind)) {
+        match counter.behind(StringGlyph::of(token.kind)) {
             Some(next) => counter = next,
             None => return Some(place),
         }
@@ -35,7 +35,7 @@ pub fn first_many(tokens: &[Token], from: usize) -> Option<usize>
 
 /// Where the next token stands.
 #[derive(Clone, Copy)]
-pub(crate) enum Spot {
+pub(crate) enum CountSpot {
     /// Outside of parentheses, where none begin.
     Outside,
     /// After a name, where they may begin.
@@ -48,54 +48,54 @@ pub(crate) enum Spot {
 
 /// What was counted of a string: its symbols, and the parameters of the last one.
 #[derive(Clone, Copy)]
-pub(crate) struct Counter {
-    pub(crate) spot: Spot,
+pub(crate) struct StringCounts {
+    pub(crate) spot: CountSpot,
     pub(crate) symbols: usize,
     pub(crate) params: usize,
 }
 
-impl Counter {
+impl StringCounts {
     // The count after one more token, or None where that token is one too many.
-    fn behind(self, glyph: Glyph) -> Option<Counter>
+    fn behind(self, glyph: StringGlyph) -> Option<StringCounts>
         ensures { result ≡ counter_step self glyph }
     {
         match (self.spot, glyph) {
-            (Spot::BehindName, Glyph::Open) => Some(self.with_spot(Spot::ParamDue)),
-            (Spot::BehindName | Spot::Outside, _) => self.with_symbol(spot_behind(glyph)),
-            (Spot::ParamDue, _) => self.with_param(),
-            (Spot::InParam, Glyph::Comma) => Some(self.with_spot(Spot::ParamDue)),
-            (Spot::InParam, Glyph::Close) => Some(self.with_spot(Spot::Outside)),
-            (Spot::InParam, _) => Some(self),
+            (CountSpot::BehindName, StringGlyph::Open) => Some(self.with_spot(CountSpot::ParamDue)),
+            (CountSpot::BehindName | CountSpot::Outside, _) => self.with_symbol(spot_behind(glyph)),
+            (CountSpot::ParamDue, _) => self.with_param(),
+            (CountSpot::InParam, StringGlyph::Comma) => Some(self.with_spot(CountSpot::ParamDue)),
+            (CountSpot::InParam, StringGlyph::Close) => Some(self.with_spot(CountSpot::Outside)),
+            (CountSpot::InParam, _) => Some(self),
         }
     }
 
-    fn with_spot(self, spot: Spot) -> Counter
+    fn with_spot(self, spot: CountSpot) -> StringCounts
         ensures { result ≡ with_spot spot self }
     {
-        Counter { spot, ..self }
+        StringCounts { spot, ..self }
     }
 
-    fn with_symbol(self, spot: Spot) -> Option<Counter>
+    fn with_symbol(self, spot: CountSpot) -> Option<StringCounts>
         ensures { result ≡ with_symbol spot self }
     {
         if self.symbols >= MOST_SYMBOLS {
             return None;
         }
-        Some(Counter {
+        Some(StringCounts {
             spot,
             symbols: self.symbols + 1,
             params: 0,
         })
     }
 
-    fn with_param(self) -> Option<Counter>
+    fn with_param(self) -> Option<StringCounts>
         ensures { result ≡ with_param self }
     {
         if self.params >= MOST_PARAMS {
             return None;
         }
-        Some(Counter {
-            spot: Spot::InParam,
+        Some(StringCounts {
+            spot: CountSpot::InParam,
             symbols: self.symbols,
             params: self.params + 1,
         })
@@ -103,11 +103,11 @@ impl Counter {
 }
 
 // After a symbol's first token outside of parentheses.
-fn spot_behind(glyph: Glyph) -> Spot
+fn spot_behind(glyph: StringGlyph) -> CountSpot
     ensures { result ≡ spot_behind glyph }
 {
     match glyph {
-        Glyph::Name | Glyph::Minus => Spot::BehindName,
-        _ => Spot::Outside,
+        StringGlyph::Name | StringGlyph::Minus => CountSpot::BehindName,
+        _ => CountSpot::Outside,
     }
 }

@@ -5,12 +5,12 @@ ghost use Rattle.lsys_text.specs.Tokens.{kind_row};
 ghost use Rattle.lsys_module.specs.Places.{BeginsBefore, NoneGoesOn, refused_place, IsStringFrom};
 ghost use Rattle.lsys_module.specs.Scanning.{string_verdict, IsScanned, between_step, param_step, progress_step, may_end};
 
-use crate::glyph::Glyph;
+use crate::glyph::StringGlyph;
 use lsys_text::{PlaceRefusal, Token};
 
 /// Where the next token stands.
 #[derive(Clone, Copy)]
-pub(crate) enum Spot {
+pub(crate) enum ScanSpot {
     /// Between symbols. The last one is a module without parameters, after which a `(` may stand, or not.
     Between { bare: bool },
     /// In parentheses, where a number is due.
@@ -24,7 +24,7 @@ pub(crate) enum Spot {
 /// What the next token hangs on.
 #[derive(Clone, Copy)]
 pub(crate) struct Progress {
-    pub(crate) spot: Spot,
+    pub(crate) spot: ScanSpot,
     /// So many branches are open.
     pub(crate) branches: usize,
 }
@@ -46,11 +46,11 @@ pub fn scan_string(tokens: &[Token], from: usize) -> Result<(), PlaceRefusal>
     ensures none_goes_on { IfErr result (NoneGoesOn from tokens.now) }
 {
     let mut progress = Progress {
-        spot: Spot::Between { bare: false },
+        spot: ScanSpot::Between { bare: false },
         branches: 0,
     };
     for place in from..tokens.len() {
-        match progress.behind(Glyph::of(tokens[place].kind)) {
+        match progress.behind(StringGlyph::of(tokens[place].kind)) {
             Some(next) => progress = next,
             None => return Err(PlaceRefusal::Token { place }),
         }
@@ -65,14 +65,14 @@ pub fn scan_string(tokens: &[Token], from: usize) -> Result<(), PlaceRefusal>
 
 impl Progress {
     // One token on, where a string goes on with it.
-    fn behind(self, glyph: Glyph) -> Option<Progress>
+    fn behind(self, glyph: StringGlyph) -> Option<Progress>
         requires { self.branches < usize.MAX }
         ensures step { result ≡ progress_step self glyph }
         ensures few { IfSome result (λ next. next.branches ≤ self.branches + 1) }
     {
         let branches = self.branches;
         match self.spot {
-            Spot::Between { bare } => behind_symbol(glyph, bare, branches),
+            ScanSpot::Between { bare } => behind_symbol(glyph, bare, branches),
             spot => in_parentheses(spot, glyph).map(|spot| Progress { spot, branches }),
         }
     }
@@ -82,41 +82,45 @@ impl Progress {
         ensures { result ≡ may_end self.spot self.branches }
     {
         match self.spot {
-            Spot::Between { .. } => self.branches == 0,
+            ScanSpot::Between { .. } => self.branches == 0,
             _ => false,
         }
     }
 }
 
-fn behind_symbol(glyph: Glyph, bare: bool, branches: usize) -> Option<Progress>
+fn behind_symbol(glyph: StringGlyph, bare: bool, branches: usize) -> Option<Progress>
     requires { branches < usize.MAX }
     ensures step { result ≡ between_step glyph bare branches }
     ensures few { IfSome result (λ next. next.branches ≤ branches + 1) }
 {
     let (bare, branches) = match glyph {
-        Glyph::Name | Glyph::Minus => (true, branches),
-        Glyph::Push => (false, branches + 1),
-        Glyph::Pop => (false, branches.checked_sub(1)?),
-        Glyph::Cut => (false, branches),
-        Glyph::Open if bare => {
-            let spot = Spot::NumberDue;
+        StringGlyph::Name | StringGlyph::Minus => (true, branches),
+        StringGlyph::Push => (false, branches + 1),
+        StringGlyph::Pop => (false, branches.checked_sub(1)?),
+        StringGlyph::Cut => (false, branches),
+        StringGlyph::Open if bare => {
+            let spot = ScanSpot::NumberDue;
             return Some(Progress { spot, branches });
         }
         _ => return None,
     };
-    let spot = Spot::Between { bare };
+    let spot = ScanSpot::Between { bare };
     Some(Progress { spot, branches })
 }
 
-fn in_parentheses(spot: Spot, glyph: Glyph) -> Option<Spot>
+fn in_parentheses(spot: ScanSpot, glyph: StringGlyph) -> Option<ScanSpot>
     ensures { result ≡ param_step spot glyph }
 {
     match (spot, glyph) {
-        (Spot::NumberDue, Glyph::Number(number)) if number < 1 << 63 => Some(Spot::NumberRead),
-        (Spot::NumberDue, Glyph::Minus) => Some(Spot::MinusRead),
-        (Spot::MinusRead, Glyph::Number(number)) if number <= 1 << 63 => Some(Spot::NumberRead),
-        (Spot::NumberRead, Glyph::Comma) => Some(Spot::NumberDue),
-        (Spot::NumberRead, Glyph::Close) => Some(Spot::Between { bare: false }),
+        (ScanSpot::NumberDue, StringGlyph::Number(number)) if number < 1 << 63 => Some(
+            ScanSpot::NumberRead,
+        ),
+        (ScanSpot::NumberDue, StringGlyph::Minus) => Some(ScanSpot::MinusRead),
+        (ScanSpot::MinusRead, StringGlyph::Number(number)) if number <= 1 << 63 => Some(
+            ScanSpot::NumberRead,
+        ),
+        (ScanSpot::NumberRead, StringGlyph::Comma) => Some(ScanSpot::NumberDue),
+        (ScanSpot::NumberRead, StringGlyph::Close) => Some(ScanSpot::Between { bare: false }),
         _ => None,
     }
 }

@@ -5,7 +5,7 @@ ghost use Rattle.lsys_module.specs.Views.{module_name, symbol_of};
 ghost use Rattle.lsys_hom.specs.Parts.{IsSoundPart, symbols_of};
 ghost use Rattle.lsys_motion.specs.Keepers.{CanEndPiece, EndsPiece, HasNext, HasSome, IsClear, StaysSmall, KeepsTaken, Takes, module_done, begun, branch_begun, empty, has_piece, noted, branch_ended};
 
-use crate::mark::Mark;
+use crate::mark::OpenPiece;
 use crate::piece::Piece;
 use crate::stand::Stand;
 use lsys_hom::Part;
@@ -19,7 +19,7 @@ use std::marker::Model;
 #[derive(Drop)]
 pub(crate) struct Keeper<T: Lattice> {
     pieces: Vec<Piece<T>>,
-    marks: Vec<Mark<T>>,
+    marks: Vec<OpenPiece<T>>,
     here: Stand<T>,
     symbols: u32,
 }
@@ -71,7 +71,7 @@ impl<T: Lattice> Keeper<T> {
         ensures begun { IfOk result (λ _. self.new ≡ begun T.shape self.old) }
         ensures known { Contains (frames T.shape) self.old.here.frame }
     {
-        let mark = Mark {
+        let mark = OpenPiece {
             piece: Some(self.pieces.len()),
             before: self.symbols,
             stand: self.here.again(),
@@ -92,7 +92,7 @@ impl<T: Lattice> Keeper<T> {
         ensures branched { IfOk result (λ _. self.new ≡ branch_begun self.old) }
         ensures known { Contains (frames T.shape) self.old.here.frame }
     {
-        let mark = Mark {
+        let mark = OpenPiece {
             piece: None,
             before: 0,
             stand: self.here.again(),

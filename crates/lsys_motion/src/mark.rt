@@ -6,7 +6,7 @@ use std::marker::Model;
 
 /// A branch, or a piece, that is open.
 #[derive(Drop)]
-pub(crate) struct Mark<T: Lattice> {
+pub(crate) struct OpenPiece<T: Lattice> {
     /// The number of the piece; None of a branch.
     pub(crate) piece: Option<usize>,
     /// How many symbols stand before the piece.
@@ -15,7 +15,7 @@ pub(crate) struct Mark<T: Lattice> {
     pub(crate) stand: Stand<T>,
 }
 
-impl<T: Lattice> Model for Mark<T> {
+impl<T: Lattice> Model for OpenPiece<T> {
     ghost use Rattle.lsys_motion.specs.Keepers as keepers;
 
     ghost Value = { keepers.OpenMark };

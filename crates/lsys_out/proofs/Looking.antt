@@ -9,8 +9,8 @@ use Rattle.lsys_hom.specs.Looks.{in_short}
 use Rattle.lsys_turtle.specs.Ways.{RoomyTurtle, CanStep, SavesAsMany, saved_after}
 use Rattle.lsys_out.specs.Drawings.{OnStep, Way, drawing, drawn_on}
 use Rattle.lsys_out.specs.declared.refusal.PictureRefusal.{PictureRefusal as Refusal}
-use Rattle.lsys_out.specs.declared.way.Step.{Step}
-use Rattle.lsys_out.specs.declared.way.Step.TheVariants as steps
+use Rattle.lsys_out.specs.declared.way.ImageStep.{ImageStep}
+use Rattle.lsys_out.specs.declared.way.ImageStep.TheVariants as steps
 use Rattle.lsys_out.specs.Nesting.{CanGo, Closes, nesting_from}
 use Rattle.lsys_out.proofs.Going.{can_step}
 
@@ -64,7 +64,7 @@ short_can S.Pop w h = h
 short_can S.Cut w h = h
 
 -- what follows where a step goes on
-pub on_step : {P Q : Type 0} (r : Result Step Refusal) → OnStep r P → (P → Q) → OnStep r Q
+pub on_step : {P Q : Type 0} (r : Result ImageStep Refusal) → OnStep r P → (P → Q) → OnStep r Q
 on_step (Ok steps.Quiet) p f = f p
 on_step (Ok (steps.Drawn g)) p f = (f p.0, p.1)
 on_step (Ok steps.End) p f = tt

@@ -16,8 +16,8 @@ use Rattle.lsys_turtle.specs.Ways.{IsReached, RoomyTurtle, segment_of}
 use Rattle.lsys_turtle.specs.declared.segment.Segment.{Segment as CodeSegment}
 use Rattle.lsys_out.specs.declared.refusal.PictureRefusal.{PictureRefusal as Refusal}
 use Rattle.lsys_out.specs.declared.refusal.PictureRefusal.TheVariants as refusals
-use Rattle.lsys_out.specs.declared.way.Step.{Step}
-use Rattle.lsys_out.specs.declared.way.Step.TheVariants as steps
+use Rattle.lsys_out.specs.declared.way.ImageStep.{ImageStep}
+use Rattle.lsys_out.specs.declared.way.ImageStep.TheVariants as steps
 
 pub record Drawing : Type 0 where
   pub segments : List Segment
@@ -97,19 +97,19 @@ IsLookedAt old new (Ok None) = old.image ≡ nothing_coming
 IsLookedAt old new (Err e) = (r : I.ImageRefusal) × IsRefusal (NoImage r) e × (old.image ≡ record { symbols = []; refusal = Some r })
 
 -- one symbol of the image is passed, or its end is reached, or its refusal
-abbrev pub IsStepped : Drawing → Drawing → Result Step Refusal → Type 0
+abbrev pub IsStepped : Drawing → Drawing → Result ImageStep Refusal → Type 0
 IsStepped old new (Ok steps.Quiet) = old ≡ new
 IsStepped old new (Ok (steps.Drawn g)) = old ≡ with_first (segment_of g) new
 IsStepped old new (Ok steps.End) = old ≡ empty_drawing
 IsStepped old new (Err e) = IsStopped old e
 
 -- the same of a call that is lent the way and the turtle
-abbrev pub Steps : Lattice → Lent Way → Lent RoomyTurtle → Result Step Refusal → Type 0
+abbrev pub Steps : Lattice → Lent Way → Lent RoomyTurtle → Result ImageStep Refusal → Type 0
 Steps l way turtle result =
     IsStepped (drawing l way.entry.now turtle.entry.now.turtle) (drawing l way.exit.now turtle.exit.now.turtle) result
 
 -- the turtle of a call that is lent both takes the symbol that the way passed last
-abbrev pub TakesSeen : Lattice → Lent Way → Lent RoomyTurtle → S.Symbol ℤ → Result Step Refusal → Type 0
+abbrev pub TakesSeen : Lattice → Lent Way → Lent RoomyTurtle → S.Symbol ℤ → Result ImageStep Refusal → Type 0
 TakesSeen l way turtle x result =
     let w = way.entry.now in
     IsStepped (drawn_on w.image.refusal w.modules (turtle_step l x turtle.entry.now.turtle) (λ u. drawing l w u)) (drawing l way.exit.now turtle.exit.now.turtle) result
@@ -126,7 +126,7 @@ GoesToNext l way turtle result =
     IsNextSegment (drawing l way.entry.now turtle.entry.now.turtle) (drawing l way.exit.now turtle.exit.now.turtle) result
 
 -- what holds where the way goes on
-abbrev pub OnStep : Result Step Refusal → Type 0 → Type 0
+abbrev pub OnStep : Result ImageStep Refusal → Type 0 → Type 0
 OnStep (Ok steps.Quiet) P = P
 OnStep (Ok (steps.Drawn g)) P = P × IsReached g
 OnStep r P = Unit {0}

@@ -15,7 +15,7 @@ use lsys_turtle::{Act, Far, Segment, Turtle};
 use std::marker::Model;
 
 /// What one symbol of the image gives.
-pub(crate) enum Step {
+pub(crate) enum ImageStep {
     /// No segment.
     Quiet,
     Drawn(Segment),
@@ -75,15 +75,15 @@ impl<'a, W: LevelView> Way<'a, W> {
     {
         'symbols: loop {
             match self.step(turtle)? {
-                Step::Quiet => {}
-                Step::Drawn(segment) => return Ok(Some(segment)),
-                Step::End => return Ok(None),
+                ImageStep::Quiet => {}
+                ImageStep::Drawn(segment) => return Ok(Some(segment)),
+                ImageStep::End => return Ok(None),
             }
         }
     }
 
     /// Passes one symbol of the image.
-    fn step<T: Lattice>(&mut self, turtle: &mut Turtle<T>) -> Result<Step, PictureRefusal>
+    fn step<T: Lattice>(&mut self, turtle: &mut Turtle<T>) -> Result<ImageStep, PictureRefusal>
         requires can_go { CanGo self.old.image.symbols turtle.old }
         ensures stepped { Steps T.shape self turtle result }
         ensures can_go { OnStep result (CanGo self.new.image.symbols turtle.new) }
@@ -92,7 +92,7 @@ impl<'a, W: LevelView> Way<'a, W> {
     {
         match self.look() {
             Ok(Some(seen)) => self.go(turtle, seen),
-            Ok(None) => Ok(Step::End),
+            Ok(None) => Ok(ImageStep::End),
             Err(refusal) => Err(refusal),
         }
     }
@@ -116,7 +116,7 @@ impl<'a, W: LevelView> Way<'a, W> {
         &mut self,
         turtle: &mut Turtle<T>,
         seen: Glance,
-    ) -> Result<Step, PictureRefusal>
+    ) -> Result<ImageStep, PictureRefusal>
         requires ready { CanStep (looked_at seen) turtle.old }
         ensures gone { TakesSeen T.shape self turtle (looked_at seen) result }
         ensures same { OnStep result (self.new ≡ self.old) }
@@ -124,8 +124,8 @@ impl<'a, W: LevelView> Way<'a, W> {
         ensures room { turtle.new.room ≡ turtle.old.room }
     {
         match take(turtle, seen) {
-            Ok(Some(segment)) => Ok(Step::Drawn(segment)),
-            Ok(None) => Ok(Step::Quiet),
+            Ok(Some(segment)) => Ok(ImageStep::Drawn(segment)),
+            Ok(None) => Ok(ImageStep::Quiet),
             Err(Far) => Err(self.refusal()),
         }
     }

@@ -1,6 +1,6 @@
 -- The parents of the next level, and what they want together.
 use Rattle.std.specs.Prelude.{ℕ, length}
-use Rattle.lsys_children.specs.declared.count.Count.{Count}
+use Rattle.lsys_children.specs.declared.count.ChildCount.{ChildCount}
 use Rattle.lsys_children.specs.declared.need.Need.{Need}
 use Rattle.lsys_children.specs.Needs.{IsBoundedCount, count_of_all, had_by_all, needs}
 use Rattle.lsys_pass.specs.declared.parents.Parents.{Parents}
@@ -12,10 +12,10 @@ abbrev pub needs_for : PassView → Parents → Need
 needs_for v ps = needs v.next.numbering (now_in v) ps.list.items
 
 -- what is counted of their children
-abbrev pub count_for : PassView → Parents → Count
+abbrev pub count_for : PassView → Parents → ChildCount
 count_for v ps = count_of_all v.next.numbering (now_in v) ps.list.items
 
-abbrev pub IsSmallCount : PassView → Parents → Count → Type 0
+abbrev pub IsSmallCount : PassView → Parents → ChildCount → Type 0
 IsSmallCount v ps c = IsBoundedCount (length ps.list.items) (had_by_all (now_in v) ps.list.items) c
 
 -- they are all nodes of the level, or some of them

@@ -12,7 +12,7 @@ use crate::keep::target;
 use crate::parents::Parents;
 use crate::pass::Pass;
 use crate::sizes::room_under;
-use lsys_children::{Count, Need, count_children};
+use lsys_children::{ChildCount, Need, count_children};
 use lsys_front::count_kids;
 use lsys_rewrite::DeriveRefusal;
 use std::alloc::AllocError;
@@ -60,7 +60,7 @@ impl<L: Ledger> Pass<L> {
     }
 
     /// How many symbols the next level will have, where this was counted.
-    fn next_symbols(&self, level: u32, parents: &Parents, count: &Count) -> usize
+    fn next_symbols(&self, level: u32, parents: &Parents, count: &ChildCount) -> usize
         requires asked { WasAsked self.now level }
         requires found { AreNextParents self.now level parents.now.list.items }
         requires either { AreWalkedOrAlone self.now level parents.now.is_whole

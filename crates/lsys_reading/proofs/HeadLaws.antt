@@ -5,13 +5,13 @@ use Rattle.lsys_syntax.specs.Strings.{ModuleName, named, plus, minus, ampersand,
 use Rattle.lsys_syntax.specs.RuleMachine as machine
 use Rattle.lsys_syntax.specs.RuleMachine.{production, homomorphism, Part, at_first, at_predecessor, at_right, Head, RuleState, Formals, Stop, reversed, reversed_onto, open_in, where_closed, only_production, left_ends, predecessor_ends}
 use Rattle.lsys_module.specs.Views.{module_name}
-use Rattle.lsys_reading.specs.declared.glyph.Glyph.{Glyph}
-use Rattle.lsys_reading.specs.declared.glyph.Glyph.TheVariants as glyphs
+use Rattle.lsys_reading.specs.declared.glyph.RuleGlyph.{RuleGlyph}
+use Rattle.lsys_reading.specs.declared.glyph.RuleGlyph.TheVariants as glyphs
 use Rattle.lsys_reading.specs.declared.form.Form.{Form}
 use Rattle.lsys_reading.specs.declared.form.Form.TheVariants.{Production, Homomorphism}
 use Rattle.lsys_reading.specs.declared.patterns.PatternModule.{PatternModule}
-use Rattle.lsys_reading.specs.declared.patterns.Pattern.{Pattern}
-use Rattle.lsys_reading.specs.declared.patterns.Pattern.TheVariants as patterns
+use Rattle.lsys_reading.specs.declared.patterns.PatternSymbol.{PatternSymbol}
+use Rattle.lsys_reading.specs.declared.patterns.PatternSymbol.TheVariants as patterns
 use Rattle.lsys_syntax.specs.RulePoints.{at_state, after_symbols, after_predecessor, after_head, head_with, symbols_step, predecessor_step, stops, taken, rule_from, point_from, verdict_at, Leads}
 use Rattle.lsys_reading.specs.Glyphs.{IsGlyph, IsPeeked}
 use Rattle.lsys_reading.specs.Patterns.{module_read, symbol_read, so_far, is_empty}
@@ -93,21 +93,21 @@ abbrev is_one : List (Symbol NameText) → Bool
 is_one (Module n fs ∷ []) = true
 is_one r = false
 
-many-not : (xs : List Pattern) (a b : Symbol NameText) (r : List (Symbol NameText)) → is_one (reversed_onto (map symbol_read xs) (a ∷ b ∷ r)) ≡ false
+many-not : (xs : List PatternSymbol) (a b : Symbol NameText) (r : List (Symbol NameText)) → is_one (reversed_onto (map symbol_read xs) (a ∷ b ∷ r)) ≡ false
 many-not [] (Module n fs) b r = refl
 many-not [] Push b r = refl
 many-not [] Pop b r = refl
 many-not [] Cut b r = refl
 many-not (x ∷ xs) a b r = many-not xs (symbol_read x) a (b ∷ r)
 
-pub only-none : (xs : List Pattern) → only_of xs ≡ None → is_one (so_far xs) ≡ false
+pub only-none : (xs : List PatternSymbol) → only_of xs ≡ None → is_one (so_far xs) ≡ false
 only-none [] h = refl
 only-none (patterns.Module x ∷ []) h = cc
 only-none (patterns.Push ∷ []) h = refl
 only-none (patterns.Pop ∷ []) h = refl
 only-none (x ∷ y ∷ xs) h = many-not xs (symbol_read y) (symbol_read x) []
 
-pub only-some : (xs : List Pattern) (x : PatternModule) → only_of xs ≡ Some x → so_far xs ≡ module_read x ∷ []
+pub only-some : (xs : List PatternSymbol) (x : PatternModule) → only_of xs ≡ Some x → so_far xs ≡ module_read x ∷ []
 only-some [] x h = cc
 only-some (patterns.Module y ∷ []) x h = let same : y ≡ x = cc in ap (λ z. module_read z ∷ []) same
 only-some (patterns.Push ∷ []) x h = cc
@@ -138,7 +138,7 @@ predecessor-none m ks at p l r b h n = let e = no-head p l r b h in symbols-stop
 -- 3. a left context
 
 -- the glyph of the token there
-pub seen : (ks : List Kind) (at : ℕ) (g : Glyph) (k : Kind) (rest : List Kind) → IsPeeked ks at g → drop at ks ≡ k ∷ rest → IsGlyph g k
+pub seen : (ks : List Kind) (at : ℕ) (g : RuleGlyph) (k : Kind) (rest : List Kind) → IsPeeked ks at g → drop at ks ≡ k ∷ rest → IsGlyph g k
 seen ks at glyphs.End k rest h d = cc
 seen ks at g k rest h d = let same : h.0 ≡ k = heads h.0 k (drop (at + 1) ks) rest (sym h.1.1 ∙ d) in subst (IsGlyph g) same h.2
   where
@@ -160,21 +160,21 @@ mark-sign (named x) = refl
 pub no-mark : (k : Kind) → machine.sign_of k ≡ machine.no_sign → (x : List ℕ) → IsGlyph (glyphs.Sign x) k → ⊥
 no-mark k e x h = let no : machine.no_sign ≡ machine.a_name (module_name x) = sym e ∙ ap machine.sign_of h.0 ∙ mark-sign (module_name x) in cc
 
-less-taken : (g : Glyph) → IsGlyph g Less → takes_left Production false g ≡ false → ⊥
+less-taken : (g : RuleGlyph) → IsGlyph g Less → takes_left Production false g ≡ false → ⊥
 less-taken (glyphs.Letters x) h t = let no = h.0 in cc
 less-taken (glyphs.Sign x) h t = no-mark Less refl x h
 less-taken glyphs.End h t = h
 less-taken g h t = cc
 
-first-cons : (xs : List Pattern) (y : Symbol NameText) (r : List (Symbol NameText)) → left_ends at_first (reversed_onto (map symbol_read xs) (y ∷ r)) ≡ Formals (at_predecessor (reversed (reversed_onto (map symbol_read xs) (y ∷ r)))) []
+first-cons : (xs : List PatternSymbol) (y : Symbol NameText) (r : List (Symbol NameText)) → left_ends at_first (reversed_onto (map symbol_read xs) (y ∷ r)) ≡ Formals (at_predecessor (reversed (reversed_onto (map symbol_read xs) (y ∷ r)))) []
 first-cons [] y r = refl
 first-cons (x ∷ xs) y r = first-cons xs (symbol_read x) (y ∷ r)
 
-left-is : (xs : List Pattern) → is_empty xs ≡ false → left_ends at_first (so_far xs) ≡ Formals (at_predecessor (patterns_of xs)) []
+left-is : (xs : List PatternSymbol) → is_empty xs ≡ false → left_ends at_first (so_far xs) ≡ Formals (at_predecessor (patterns_of xs)) []
 left-is [] h = cc
 left-is (x ∷ xs) h = first-cons xs (symbol_read x) [] ∙ ap (λ l. Formals (at_predecessor l) []) (reversed-twice (patterns_of (x ∷ xs)) ∙ nil-append (patterns_of (x ∷ xs)))
 
-pub left-goes : (f : Form) (ks : List Kind) (at : ℕ) (xs : List Pattern) (b : Bool) (g : Glyph) → IsPeeked ks at g → b ≡ is_empty xs → takes_left f b g ≡ true
+pub left-goes : (f : Form) (ks : List Kind) (at : ℕ) (xs : List PatternSymbol) (b : Bool) (g : RuleGlyph) → IsPeeked ks at g → b ≡ is_empty xs → takes_left f b g ≡ true
     → (form_in f ≡ production) × Leads (form_in f) ks at (after_symbols at_first (so_far xs)) (at + 1) (at_state (Formals (at_predecessor (patterns_of xs)) []))
 left-goes Production ks at xs true glyphs.Less h e t = cc
 left-goes Production ks at xs false glyphs.Less h e t =
@@ -182,18 +182,18 @@ left-goes Production ks at xs false glyphs.Less h e t =
 left-goes Production ks at xs b g h e t = cc
 left-goes Homomorphism ks at xs b g h e t = cc
 
-less-cons : (xs : List Pattern) → is_empty xs ≡ true → left_ends at_first (so_far xs) ≡ Stop
+less-cons : (xs : List PatternSymbol) → is_empty xs ≡ true → left_ends at_first (so_far xs) ≡ Stop
 less-cons [] h = refl
 less-cons (x ∷ xs) h = cc
 
-pub left-not : (f : Form) (ks : List Kind) (at : ℕ) (xs : List Pattern) (b : Bool) (g : Glyph) → IsPeeked ks at g → b ≡ is_empty xs → takes_left f b g ≡ false → NoLess (form_in f) ks at at_first (so_far xs)
+pub left-not : (f : Form) (ks : List Kind) (at : ℕ) (xs : List PatternSymbol) (b : Bool) (g : RuleGlyph) → IsPeeked ks at g → b ≡ is_empty xs → takes_left f b g ≡ false → NoLess (form_in f) ks at at_first (so_far xs)
 left-not Homomorphism ks at xs b g h e t = λ rest d. refl
 left-not Production ks at xs true g h e t = λ rest d. less-cons xs (sym e)
 left-not Production ks at xs false g h e t = λ rest d. absurd (less-taken g (seen ks at g Less rest h d) t)
 
 -- 4. a right context
 
-pub right-goes : (f : Form) (ks : List Kind) (at : ℕ) (l : List (Symbol NameText)) (n : ModuleName) (fs : List NameText) (g : Glyph) → IsPeeked ks at g → takes_right f g ≡ true
+pub right-goes : (f : Form) (ks : List Kind) (at : ℕ) (l : List (Symbol NameText)) (n : ModuleName) (fs : List NameText) (g : RuleGlyph) → IsPeeked ks at g → takes_right f g ≡ true
     → (form_in f ≡ production) × Leads (form_in f) ks at (after_predecessor l n fs) (at + 1) (at_state (Formals (at_right l n fs) []))
 right-goes Production ks at l n fs glyphs.Greater h t = (refl, leads-token production ks at h.0 (after_predecessor l n fs) h.1 (Formals (at_right l n fs) []) (ap (λ k. predecessor_step production k l n fs) h.2) (λ i v. refl))
 right-goes Production ks at l n fs g h t = cc
@@ -212,14 +212,14 @@ open-head l n fs (x ∷ r) (inr h) = by (open_in (x ∷ r)) h
     by zero h = absurd (omega arith)
     by (suc i) h = refl
 
-pub right-is : (m : machine.Form) (ks : List Kind) (at : ℕ) (l : List (Symbol NameText)) (n : ModuleName) (fs : List NameText) (xs : List Pattern) → is_empty xs ≡ false → open_in (so_far xs) ≡ 0
+pub right-is : (m : machine.Form) (ks : List Kind) (at : ℕ) (l : List (Symbol NameText)) (n : ModuleName) (fs : List NameText) (xs : List PatternSymbol) → is_empty xs ≡ false → open_in (so_far xs) ≡ 0
     → verdict_at m ks at (after_symbols (at_right l n fs) (so_far xs)) ≡ verdict_at m ks at (after_head (head_with l n fs (patterns_of xs)))
 right-is m ks at l n fs xs h e =
     let back : reversed (so_far xs) ≡ patterns_of xs = reversed-twice (patterns_of xs) ∙ nil-append (patterns_of xs) in
     symbols-head m ks at (at_right l n fs) (so_far xs) (head_with l n fs (patterns_of xs))
     (closed-head l n fs (so_far xs) (sym (first-is xs) ∙ h) e ∙ ap (λ r. Some (head_with l n fs r)) back) refl (no-less m ks at (at_right l n fs) (so_far xs) refl)
 
-pub right-none : (m : machine.Form) (ks : List Kind) (at : ℕ) (l : List (Symbol NameText)) (n : ModuleName) (fs : List NameText) (xs : List Pattern) → (is_empty xs ≡ true) ⊎ (0 < open_in (so_far xs))
+pub right-none : (m : machine.Form) (ks : List Kind) (at : ℕ) (l : List (Symbol NameText)) (n : ModuleName) (fs : List NameText) (xs : List PatternSymbol) → (is_empty xs ≡ true) ⊎ (0 < open_in (so_far xs))
     → verdict_at m ks at (after_symbols (at_right l n fs) (so_far xs)) ≡ stops at
 right-none m ks at l n fs xs h = symbols-stop m ks at (at_right l n fs) (so_far xs) (open-head l n fs (so_far xs) (by h)) refl (no-less m ks at (at_right l n fs) (so_far xs) refl)
   where

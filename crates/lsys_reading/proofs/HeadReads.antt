@@ -7,9 +7,9 @@ use Rattle.lsys_syntax.specs.RuleMachine.{Part, at_first, at_predecessor, at_rig
 use Rattle.lsys_module.specs.Views.{module_name}
 use Rattle.lsys_reading.specs.declared.refusal.PartRefusal.{PartRefusal}
 use Rattle.lsys_reading.specs.declared.refusal.PartRefusal.TheVariants.{Token, Deep, Memory}
-use Rattle.lsys_reading.specs.declared.glyph.Glyph.{Glyph}
+use Rattle.lsys_reading.specs.declared.glyph.RuleGlyph.{RuleGlyph}
 use Rattle.lsys_reading.specs.declared.form.Form.{Form}
-use Rattle.lsys_reading.specs.declared.patterns.Pattern.{Pattern}
+use Rattle.lsys_reading.specs.declared.patterns.PatternSymbol.{PatternSymbol}
 use Rattle.lsys_reading.specs.declared.patterns.Section.{Section}
 use Rattle.lsys_reading.specs.declared.patterns.Section.TheVariants.{Alone, Right}
 use Rattle.lsys_reading.specs.declared.patterns.PatternsRead.{PatternsRead}
@@ -25,7 +25,7 @@ use Rattle.lsys_reading.proofs.HeadLaws.{NoLess, no-less, IsBefore, predecessor-
 
 -- 1. a predecessor alone
 
-module _ (f : Form) (ks : List Kind) (at : ℕ) (p : Part) (left xs : List Pattern) (end : ℕ) (before : IsBefore p (patterns_of left))
+module _ (f : Form) (ks : List Kind) (at : ℕ) (p : Part) (left xs : List PatternSymbol) (end : ℕ) (before : IsBefore p (patterns_of left))
     (read : Leads (form_in f) ks at (at_state start) end (after_symbols p (so_far xs))) (none : NoLess (form_in f) ks end p (so_far xs)) where
   pub single-read : (result : Result PredecessorRead PartRefusal) → IsSingle left xs end result → IsPredecessorRead f ks at result
   single-read (Ok x) h =
@@ -43,10 +43,10 @@ module _ (f : Form) (ks : List Kind) (at : ℕ) (p : Part) (left xs : List Patte
   single-read (Err (Deep place)) h = elim h [ ]
   single-read (Err Memory) h = elim h [ ]
 
-module _ (f : Form) (ks : List Kind) (at : ℕ) (s : Section) (first : IsSection s (form_in f) at_first) (a : PatternsRead) (read : ArePatternsRead s ks at (Ok a)) (b : Bool) (g : Glyph)
+module _ (f : Form) (ks : List Kind) (at : ℕ) (s : Section) (first : IsSection s (form_in f) at_first) (a : PatternsRead) (read : ArePatternsRead s ks at (Ok a)) (b : Bool) (g : RuleGlyph)
     (h : IsPeeked ks a.end g) (e : b ≡ is_empty a.symbols.items) where
   -- no left context
-  pub first-read : (left : List Pattern) → left ≡ [] → (result : Result PredecessorRead PartRefusal) → takes_left f b g ≡ false → IsSingle left a.symbols.items a.end result → IsPredecessorRead f ks at result
+  pub first-read : (left : List PatternSymbol) → left ≡ [] → (result : Result PredecessorRead PartRefusal) → takes_left f b g ≡ false → IsSingle left a.symbols.items a.end result → IsPredecessorRead f ks at result
   first-read left none result t i =
       single-read f ks at at_first left a.symbols.items a.end (ap patterns_of none) (read (form_in f) at_first first) (left-not f ks a.end a.symbols.items b g h e t) result i
 
@@ -72,7 +72,7 @@ module _ (f : Form) (ks : List Kind) (at : ℕ) (s : Section) (first : IsSection
 
 -- 2. a right context
 
-module _ (f : Form) (ks : List Kind) (at : ℕ) (g : Glyph) (h : IsPeeked ks at g) (t : takes_right f g ≡ true) where
+module _ (f : Form) (ks : List Kind) (at : ℕ) (g : RuleGlyph) (h : IsPeeked ks at g) (t : takes_right f g ≡ true) where
   right-section : (l : List (Symbol NameText)) (n : ModuleName) (fs : List NameText) → IsSection Right (form_in f) (at_right l n fs)
   right-section l n fs = subst (λ m. IsSection Right m (at_right l n fs)) (sym (right-goes f ks at l n fs g h t).0) tt
 

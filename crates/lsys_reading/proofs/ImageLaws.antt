@@ -7,10 +7,10 @@ use Rattle.lsys_syntax.specs.RuleMachine as machine
 use Rattle.lsys_syntax.specs.RuleMachine.{production, homomorphism, Premise, RuleState, InExpr, as_param, Successor, Stop, expr_start, done_step, reversed, open_in, popped, where_closed, rule_with, successor_open, successor_step, only_production}
 use Rattle.lsys_module.specs.Views.{module_name}
 use Rattle.lsys_reading.specs.declared.refusal.PartRefusal.{PartRefusal}
-use Rattle.lsys_reading.specs.declared.glyph.Glyph.{Glyph}
-use Rattle.lsys_reading.specs.declared.glyph.Glyph.TheVariants as glyphs
+use Rattle.lsys_reading.specs.declared.glyph.RuleGlyph.{RuleGlyph}
+use Rattle.lsys_reading.specs.declared.glyph.RuleGlyph.TheVariants as glyphs
 use Rattle.lsys_reading.specs.declared.glyph.Separator.TheVariants as separators
-use Rattle.lsys_reading.specs.declared.span.Span.{Span}
+use Rattle.lsys_reading.specs.declared.span.ExprSpan.{ExprSpan}
 use Rattle.lsys_reading.specs.declared.images.ParamRead.{ParamRead}
 use Rattle.lsys_reading.specs.declared.images.ParamsRead.{ParamsRead}
 use Rattle.lsys_syntax.specs.RulePoints.{at_state, after_image, taken, rule_from, point_from, verdict_at, Leads}
@@ -26,17 +26,17 @@ param-err ks at q h = λ m b r n es. h m (as_param b r n es)
 
 -- 2. the loop over parameters
 
-pub record ParamsSoFar (ks : List Kind) (at end : ℕ) (ss : List Span) : Type 0 where
+pub record ParamsSoFar (ks : List Kind) (at end : ℕ) (ss : List ExprSpan) : Type 0 where
   pub after : at ≤ end
   pub within : end ≤ length ks
   pub spans : AreSpans ks ss
   pub read : (m : machine.Form) (b : Premise) (r : List (Symbol Expr)) (n : ModuleName) → Leads m ks at (at_state (param_due b r n [])) end (at_state (param_due b r n (reversed (params_at ks ss))))
 
-pub spans-push : (ks : List Kind) (ss : List Span) (s : Span) → AreSpans ks ss → IsSpan ks s → AreSpans ks (ss ++ s ∷ [])
+pub spans-push : (ks : List Kind) (ss : List ExprSpan) (s : ExprSpan) → AreSpans ks ss → IsSpan ks s → AreSpans ks (ss ++ s ∷ [])
 spans-push ks [] s h i = (i, tt)
 spans-push ks (t ∷ ss) s h i = (h.0, spans-push ks ss s h.1 i)
 
-module _ (ks : List Kind) (at end : ℕ) (ss : List Span) (x : ParamRead) (so : ParamsSoFar ks at end ss) (one : IsParamRead ks end (Ok x)) where
+module _ (ks : List Kind) (at end : ℕ) (ss : List ExprSpan) (x : ParamRead) (so : ParamsSoFar ks at end ss) (one : IsParamRead ks end (Ok x)) where
   further : (m : machine.Form) (b : Premise) (r : List (Symbol Expr)) (n : ModuleName)
       → Leads m ks at (at_state (param_due b r n [])) (x.span.to + 1) (at_state (after_param x.separator b r n (expr_at ks x.span ∷ reversed (params_at ks ss))))
   further m b r n =
@@ -59,7 +59,7 @@ module _ (ks : List Kind) (at end : ℕ) (ss : List Span) (x : ParamRead) (so : 
       (subst (λ es. Leads m ks at (at_state (param_due b r n [])) (x.span.to + 1) (at_state (Successor b (Module n es ∷ r)))) (mapped-whole (expr_at ks) ss x.span ∙ ap (params_at ks) (sym i))
       (subst (λ s. Leads m ks at (at_state (param_due b r n [])) (x.span.to + 1) (at_state (after_param s b r n (expr_at ks x.span ∷ reversed (params_at ks ss))))) e (further m b r n)))
 
-pub params-refused : (ks : List Kind) (at end : ℕ) (ss : List Span) (q : PartRefusal) → ParamsSoFar ks at end ss → IsParamRead ks end (Err q) → AreParamsRead ks at (Err q)
+pub params-refused : (ks : List Kind) (at end : ℕ) (ss : List ExprSpan) (q : PartRefusal) → ParamsSoFar ks at end ss → IsParamRead ks end (Err q) → AreParamsRead ks at (Err q)
 params-refused ks at end ss q so one = λ m b r n.
     refuses-on m ks at end (at_state (param_due b r n [])) (at_state (param_due b r n (reversed (params_at ks ss)))) q (so.read m b r n) (one m b r n (reversed (params_at ks ss)))
 
@@ -73,16 +73,16 @@ image-shut m ks at b r e = by (drop at ks)
     by (LeftParen ∷ rest) = ap (λ s. taken at s (rule_from m (at + 1) s rest)) e
     by (k ∷ rest) = refl
 
-image-opens : (m : machine.Form) (ks : List Kind) (at : ℕ) (b : Premise) (r : List (Symbol Expr)) (n : ModuleName) (g : Glyph) → IsPeeked ks at g → is_opening g ≡ true
+image-opens : (m : machine.Form) (ks : List Kind) (at : ℕ) (b : Premise) (r : List (Symbol Expr)) (n : ModuleName) (g : RuleGlyph) → IsPeeked ks at g → is_opening g ≡ true
     → Leads m ks at (at_state (Successor b (Module n [] ∷ r))) (at + 1) (at_state (param_due b r n []))
 image-opens m ks at b r n glyphs.Open h e = leads-token m ks at h.0 (at_state (Successor b (Module n [] ∷ r))) h.1 (param_due b r n []) (ap (λ k. successor_step m k b (Module n [] ∷ r)) h.2) (λ i v. refl)
 image-opens m ks at b r n g h e = cc
 
-with-params : (ks : List Kind) (b : Premise) (n : ModuleName) (ss : List Span) (r : List (Symbol Expr)) → 0 < length ss → successor_open b (Module n (params_at ks ss) ∷ r) ≡ Stop
+with-params : (ks : List Kind) (b : Premise) (n : ModuleName) (ss : List ExprSpan) (r : List (Symbol Expr)) → 0 < length ss → successor_open b (Module n (params_at ks ss) ∷ r) ≡ Stop
 with-params ks b n [] r h = absurd (omega arith)
 with-params ks b n (s ∷ ss) r h = refl
 
-module _ (x : List ℕ) (ks : List Kind) (at : ℕ) (g : Glyph) (h : IsPeeked ks at g) where
+module _ (x : List ℕ) (ks : List Kind) (at : ℕ) (g : RuleGlyph) (h : IsPeeked ks at g) where
   module _ (o : is_opening g ≡ true) where
     pub image-module-ok : (y : ParamsRead) → AreParamsRead ks (at + 1) (Ok y) → 0 < length y.params.items → IsImageModuleRead x ks at (Ok (record { image = record { name = x; params = y.params }; end = y.end }))
     image-module-ok y i some = λ m b r.

@@ -10,12 +10,12 @@ use Rattle.lsys_syntax.specs.RuleMachine.{Premise, RuleState, Successor, Stop, r
 use Rattle.lsys_module.specs.Views.{module_name}
 use Rattle.lsys_reading.specs.declared.refusal.PartRefusal.{PartRefusal}
 use Rattle.lsys_reading.specs.declared.refusal.PartRefusal.TheVariants.{Token}
-use Rattle.lsys_reading.specs.declared.glyph.Glyph.{Glyph}
-use Rattle.lsys_reading.specs.declared.glyph.Glyph.TheVariants as glyphs
+use Rattle.lsys_reading.specs.declared.glyph.RuleGlyph.{RuleGlyph}
+use Rattle.lsys_reading.specs.declared.glyph.RuleGlyph.TheVariants as glyphs
 use Rattle.lsys_reading.specs.declared.form.Form.{Form}
 use Rattle.lsys_reading.specs.declared.form.Form.TheVariants.{Production, Homomorphism}
-use Rattle.lsys_reading.specs.declared.images.Image.{Image}
-use Rattle.lsys_reading.specs.declared.images.Image.TheVariants as images
+use Rattle.lsys_reading.specs.declared.images.ImageSymbol.{ImageSymbol}
+use Rattle.lsys_reading.specs.declared.images.ImageSymbol.TheVariants as images
 use Rattle.lsys_reading.specs.declared.images.ImageOpening.{ImageOpening}
 use Rattle.lsys_reading.specs.declared.images.ImageOpening.TheVariants as openings
 use Rattle.lsys_reading.specs.declared.images.ImageModuleRead.{ImageModuleRead}
@@ -73,7 +73,7 @@ no-cut Homomorphism s h = refl
 
 module _ (f : Form) (n : ℕ) (ks : List Kind) (at : ℕ) (b : Premise) (r : List (Symbol Expr)) (counted : n ≡ open_in r) where
   -- no symbol begins there
-  pub image-none : (g : Glyph) → IsPeeked ks at g → at < length ks → None ≡ image_opening_of f n g → verdict_at (form_in f) ks at (after_image b r) ≡ stops at
+  pub image-none : (g : RuleGlyph) → IsPeeked ks at g → at < length ks → None ≡ image_opening_of f n g → verdict_at (form_in f) ks at (after_image b r) ≡ stops at
   image-none glyphs.End h w e = absurd (omega (arith, w, length-drop at ks, ap length h))
   image-none (glyphs.Letters x) h w e = cc
   image-none (glyphs.Sign x) h w e = cc
@@ -85,7 +85,7 @@ module _ (f : Form) (n : ℕ) (ks : List Kind) (at : ℕ) (b : Premise) (r : Lis
   image-none glyphs.Other h w e = stops-token (form_in f) ks at h.0 (after_image b r) h.1 (other-stops (form_in f) h.0 b r h.2)
   image-none g h w e = stops-token (form_in f) ks at h.0 (after_image b r) h.1 (ap (λ k. image_step (form_in f) k b r) h.2)
 
-  pub image-name : (g : Glyph) (x : List ℕ) → IsPeeked ks at g → Some (openings.Name x) ≡ image_opening_of f n g → Leads (form_in f) ks at (after_image b r) (at + 1) (at_state (Successor b (Module (module_name x) [] ∷ r)))
+  pub image-name : (g : RuleGlyph) (x : List ℕ) → IsPeeked ks at g → Some (openings.Name x) ≡ image_opening_of f n g → Leads (form_in f) ks at (after_image b r) (at + 1) (at_state (Successor b (Module (module_name x) [] ∷ r)))
   image-name (glyphs.Letters y) x h e =
       let same : x ≡ y = cc in
       leads-token (form_in f) ks at h.0 (after_image b r) h.1 (Successor b (Module (module_name x) [] ∷ r))
@@ -100,7 +100,7 @@ module _ (f : Form) (n : ℕ) (ks : List Kind) (at : ℕ) (b : Premise) (r : Lis
 
 -- 2. a symbol
 
-module _ (f : Form) (n : ℕ) (ks : List Kind) (at : ℕ) (g : Glyph) (h : IsPeeked ks at g) where
+module _ (f : Form) (n : ℕ) (ks : List Kind) (at : ℕ) (g : RuleGlyph) (h : IsPeeked ks at g) where
   pub symbol-refused : at < length ks → None ≡ image_opening_of f n g → IsImageRead f n ks at (Err (Token at))
   symbol-refused w e = λ b r c. image-none f n ks at b r c g h w e
 
@@ -114,33 +114,33 @@ module _ (f : Form) (n : ℕ) (ks : List Kind) (at : ℕ) (g : Glyph) (h : IsPee
 
 -- 3. the loop
 
-abbrev pub images_so_far : List Kind → List Image → List (Symbol Expr)
+abbrev pub images_so_far : List Kind → List ImageSymbol → List (Symbol Expr)
 images_so_far ks xs = reversed (images_at ks xs)
 
-pub record ImagesSoFar (f : Form) (ks : List Kind) (at end : ℕ) (xs : List Image) (branches : ℕ) : Type 0 where
+pub record ImagesSoFar (f : Form) (ks : List Kind) (at end : ℕ) (xs : List ImageSymbol) (branches : ℕ) : Type 0 where
   pub within : end ≤ length ks
   pub few : branches ≤ end
   pub counted : branches ≡ open_in (images_so_far ks xs)
   pub spans : ImagesAreAt ks xs
   pub read : (b : Premise) → Leads (form_in f) ks at (at_state (Successor b [])) end (after_image b (images_so_far ks xs))
 
-images-push : (ks : List Kind) (xs : List Image) (x : Image) → ImagesAreAt ks xs → ImageIsAt ks x → ImagesAreAt ks (xs ++ x ∷ [])
+images-push : (ks : List Kind) (xs : List ImageSymbol) (x : ImageSymbol) → ImagesAreAt ks xs → ImageIsAt ks x → ImagesAreAt ks (xs ++ x ∷ [])
 images-push ks [] x h i = (i, tt)
 images-push ks (y ∷ xs) x h i = (h.0, images-push ks xs x h.1 i)
 
-open-behind : (ks : List Kind) (x : Image) (r : List (Symbol Expr)) → image_branches x (open_in r) ≡ open_in (image_at ks x ∷ r)
+open-behind : (ks : List Kind) (x : ImageSymbol) (r : List (Symbol Expr)) → image_branches x (open_in r) ≡ open_in (image_at ks x ∷ r)
 open-behind ks (images.Module y) r = refl
 open-behind ks images.Push r = refl
 open-behind ks images.Pop r = refl
 open-behind ks images.Cut r = refl
 
-few-behind : (x : Image) (b end next : ℕ) → b ≤ end → end < next → image_branches x b ≤ next
+few-behind : (x : ImageSymbol) (b end next : ℕ) → b ≤ end → end < next → image_branches x b ≤ next
 few-behind (images.Module y) b end next h i = omega (arith, h, i)
 few-behind images.Push b end next h i = omega (arith, h, i)
 few-behind images.Pop b end next h i = omega (arith, h, i)
 few-behind images.Cut b end next h i = omega (arith, h, i)
 
-module _ (f : Form) (ks : List Kind) (at end : ℕ) (xs : List Image) (branches : ℕ) (so : ImagesSoFar f ks at end xs branches) where
+module _ (f : Form) (ks : List Kind) (at end : ℕ) (xs : List ImageSymbol) (branches : ℕ) (so : ImagesSoFar f ks at end xs branches) where
   pub images-more : (x : ImageRead) → IsImageRead f branches ks end (Ok x) → ImageIsAt ks x.symbol → end < x.end → x.end ≤ length ks → ImagesSoFar f ks at x.end (xs ++ x.symbol ∷ []) (image_branches x.symbol branches)
   images-more x i s l w =
       let last : images_so_far ks (xs ++ x.symbol ∷ []) ≡ image_at ks x.symbol ∷ images_so_far ks xs = mapped-push (image_at ks) xs x.symbol in

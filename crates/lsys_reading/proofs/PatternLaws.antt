@@ -5,8 +5,8 @@ use Rattle.lsys_syntax.specs.Tokens.{NameText, Kind, Word, LongWord, Number, Big
 use Rattle.lsys_syntax.specs.Strings.{ModuleName, named, plus, minus, ampersand, caret, backslash, slash, bar, bang, name_kind, Symbol, Module, Push, Pop}
 use Rattle.lsys_syntax.specs.RuleMachine.{Form, production, homomorphism, Part, at_first, at_predecessor, at_right, RuleState, Formals, FormalDue, Stop, open_in, popped, only_right, one_more, formals_open, formals_step}
 use Rattle.lsys_module.specs.Views.{module_name}
-use Rattle.lsys_reading.specs.declared.glyph.Glyph.{Glyph}
-use Rattle.lsys_reading.specs.declared.glyph.Glyph.TheVariants as glyphs
+use Rattle.lsys_reading.specs.declared.glyph.RuleGlyph.{RuleGlyph}
+use Rattle.lsys_reading.specs.declared.glyph.RuleGlyph.TheVariants as glyphs
 use Rattle.lsys_reading.specs.declared.patterns.Section.{Section}
 use Rattle.lsys_reading.specs.declared.patterns.Section.TheVariants.{First, Alone, Right}
 use Rattle.lsys_reading.specs.declared.patterns.Standing.{Standing}
@@ -38,7 +38,7 @@ other-no-paren : (k : Kind) → is_other k ≡ true → is_paren k ≡ false
 other-no-paren LeftParen h = cc
 other-no-paren k h = refl
 
-pub no-paren : (g : Glyph) (k : Kind) → IsGlyph g k → is_opening g ≡ false → is_paren k ≡ false
+pub no-paren : (g : RuleGlyph) (k : Kind) → IsGlyph g k → is_opening g ≡ false → is_paren k ≡ false
 no-paren glyphs.Open k h e = cc
 no-paren (glyphs.Letters x) k h e = ap is_paren h.0
 no-paren (glyphs.Sign x) k h e = ap is_paren h.0 ∙ name-no-paren (module_name x)
@@ -56,7 +56,7 @@ shut m ks at p r e = by (drop at ks)
     by (k ∷ rest) = refl
 
 -- a parenthesis after a name
-pub opens : (m : Form) (ks : List Kind) (at : ℕ) (p : Part) (r : List (Symbol NameText)) (n : ModuleName) (g : Glyph) → IsPeeked ks at g → is_opening g ≡ true
+pub opens : (m : Form) (ks : List Kind) (at : ℕ) (p : Part) (r : List (Symbol NameText)) (n : ModuleName) (g : RuleGlyph) → IsPeeked ks at g → is_opening g ≡ true
     → Leads m ks at (at_state (Formals p (Module n [] ∷ r))) (at + 1) (at_state (FormalDue p r n []))
 opens m ks at p r n glyphs.Open h e = leads-token m ks at h.0 (at_state (Formals p (Module n [] ∷ r))) h.1 (FormalDue p r n []) (ap (λ k. formals_step m k p (Module n [] ∷ r)) h.2) (λ i v. refl)
 opens m ks at p r n g h e = cc
@@ -152,7 +152,7 @@ not-popped s b i m p t h e n = elim h [ ]
 
 module _ (m : Form) (ks : List Kind) (at : ℕ) (p : Part) (r : List (Symbol NameText)) (st : Standing) (stands : IsStanding st m p r) where
   -- no symbol begins there
-  pub opening-none : (g : Glyph) → IsPeeked ks at g → None ≡ opening_of st g → verdict_at m ks at (after_symbol p r) ≡ verdict_at m ks at (after_symbols p r)
+  pub opening-none : (g : RuleGlyph) → IsPeeked ks at g → None ≡ opening_of st g → verdict_at m ks at (after_symbol p r) ≡ verdict_at m ks at (after_symbols p r)
   opening-none glyphs.End h e = same-end m ks at (after_symbol p r) (after_symbols p r) h refl
   opening-none (glyphs.Letters x) h e =
       same-token m ks at h.0 (after_symbol p r) h.1 (after_symbols p r)
@@ -170,7 +170,7 @@ module _ (m : Form) (ks : List Kind) (at : ℕ) (p : Part) (r : List (Symbol Nam
   opening-none glyphs.Other h e = same-token m ks at h.0 (after_symbol p r) h.1 (after_symbols p r) (other-ends m h.0 p r h.2)
   opening-none g h e = same-token m ks at h.0 (after_symbol p r) h.1 (after_symbols p r) (ap (λ k. symbol_step m k p r) h.2 ∙ sym (ap (λ k. symbols_step m k p r) h.2))
 
-  pub opening-name : (g : Glyph) (x : List ℕ) → IsPeeked ks at g → Some (openings.Name x) ≡ opening_of st g → Leads m ks at (after_symbol p r) (at + 1) (at_state (Formals p (Module (module_name x) [] ∷ r)))
+  pub opening-name : (g : RuleGlyph) (x : List ℕ) → IsPeeked ks at g → Some (openings.Name x) ≡ opening_of st g → Leads m ks at (after_symbol p r) (at + 1) (at_state (Formals p (Module (module_name x) [] ∷ r)))
   opening-name (glyphs.Letters y) x h e =
       let s = some-where (takes_name st.section st.is_first) (openings.Name y) (openings.Name x) e in
       let is : openings.Name x ≡ openings.Name y = s.1 in

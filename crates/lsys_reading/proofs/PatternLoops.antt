@@ -8,10 +8,10 @@ use Rattle.lsys_syntax.specs.RuleMachine.{Form, Part, Formals, FormalDue, Stop, 
 use Rattle.lsys_text.specs.Tokens.{name_of}
 use Rattle.lsys_module.specs.Views.{module_name}
 use Rattle.lsys_reading.specs.declared.refusal.PartRefusal.{PartRefusal}
-use Rattle.lsys_reading.specs.declared.glyph.Glyph.{Glyph}
+use Rattle.lsys_reading.specs.declared.glyph.RuleGlyph.{RuleGlyph}
 use Rattle.lsys_reading.specs.declared.formals.FormalsRead.{FormalsRead}
-use Rattle.lsys_reading.specs.declared.patterns.Pattern.{Pattern}
-use Rattle.lsys_reading.specs.declared.patterns.Pattern.TheVariants as patterns
+use Rattle.lsys_reading.specs.declared.patterns.PatternSymbol.{PatternSymbol}
+use Rattle.lsys_reading.specs.declared.patterns.PatternSymbol.TheVariants as patterns
 use Rattle.lsys_reading.specs.declared.patterns.Section.{Section}
 use Rattle.lsys_reading.specs.declared.patterns.Standing.{Standing}
 use Rattle.lsys_reading.specs.declared.patterns.Opening.TheVariants as openings
@@ -32,7 +32,7 @@ with-formals p n (f ∷ fs) r h = refl
 
 -- 1. a module with formals
 
-module _ (x : List ℕ) (ks : List Kind) (at : ℕ) (g : Glyph) (h : IsPeeked ks at g) (o : is_opening g ≡ true) where
+module _ (x : List ℕ) (ks : List Kind) (at : ℕ) (g : RuleGlyph) (h : IsPeeked ks at g) (o : is_opening g ≡ true) where
   pub module-ok : (f : FormalsRead) → AreFormalsRead ks (at + 1) (Ok f) → 0 < length f.formals.items → IsModuleRead x ks at (Ok (record { pattern = record { name = x; formals = f.formals }; end = f.end }))
   module-ok f i some = λ m p r.
       let n = module_name x in
@@ -48,7 +48,7 @@ module _ (x : List ℕ) (ks : List Kind) (at : ℕ) (g : Glyph) (h : IsPeeked ks
 
 -- 2. a symbol
 
-module _ (st : Standing) (ks : List Kind) (at : ℕ) (g : Glyph) (h : IsPeeked ks at g) where
+module _ (st : Standing) (ks : List Kind) (at : ℕ) (g : RuleGlyph) (h : IsPeeked ks at g) where
   pub symbol-none : at ≤ length ks → None ≡ opening_of st g → IsSymbolRead st ks at (Ok None)
   symbol-none w e = λ m p r s. leads-stay m ks at (after_symbol p r) (after_symbols p r) w (opening-none m ks at p r st s g h e)
 
@@ -62,18 +62,18 @@ module _ (st : Standing) (ks : List Kind) (at : ℕ) (g : Glyph) (h : IsPeeked k
 
 -- 3. the loop
 
-pub record PatternsSoFar (s : Section) (ks : List Kind) (at end : ℕ) (xs : List Pattern) (branches : ℕ) : Type 0 where
+pub record PatternsSoFar (s : Section) (ks : List Kind) (at end : ℕ) (xs : List PatternSymbol) (branches : ℕ) : Type 0 where
   pub after : at ≤ end
   pub within : end ≤ length ks
   pub few : branches ≤ end
   pub counted : branches ≡ open_in (so_far xs)
   pub read : (m : Form) (p : Part) → IsSection s m p → Leads m ks at (at_state (Formals p [])) end (after_symbol p (so_far xs))
 
-full-behind : (xs : List Pattern) (y : Symbol NameText) (r : List (Symbol NameText)) → is_empty (reversed_onto (map symbol_read xs) (y ∷ r)) ≡ false
+full-behind : (xs : List PatternSymbol) (y : Symbol NameText) (r : List (Symbol NameText)) → is_empty (reversed_onto (map symbol_read xs) (y ∷ r)) ≡ false
 full-behind [] y r = refl
 full-behind (x ∷ xs) y r = full-behind xs (symbol_read x) (y ∷ r)
 
-pub first-is : (xs : List Pattern) → is_empty xs ≡ is_empty (so_far xs)
+pub first-is : (xs : List PatternSymbol) → is_empty xs ≡ is_empty (so_far xs)
 first-is [] = refl
 first-is (x ∷ xs) = sym (full-behind xs (symbol_read x) [])
 
@@ -89,7 +89,7 @@ few-behind Push b end next h i = omega (arith, h, i)
 few-behind Pop b end next h i = omega (arith, h, i)
 few-behind Cut b end next h i = omega (arith, h, i)
 
-module _ (s : Section) (ks : List Kind) (at end : ℕ) (xs : List Pattern) (branches : ℕ) (first : Bool) (so : PatternsSoFar s ks at end xs branches) (is : first ≡ is_empty xs) where
+module _ (s : Section) (ks : List Kind) (at end : ℕ) (xs : List PatternSymbol) (branches : ℕ) (first : Bool) (so : PatternsSoFar s ks at end xs branches) (is : first ≡ is_empty xs) where
   stands : (m : Form) (p : Part) → IsSection s m p → IsStanding (record { section = s; is_first = first; branches = branches }) m p (so_far xs)
   stands m p i = (i, is ∙ first-is xs, so.counted)
 
@@ -110,7 +110,7 @@ module _ (s : Section) (ks : List Kind) (at end : ℕ) (xs : List Pattern) (bran
   pub patterns-refused : (e : PartRefusal) → IsSymbolRead (record { section = s; is_first = first; branches = branches }) ks end (Err e) → ArePatternsRead s ks at (Err e)
   patterns-refused e i = λ m p j. refuses-on m ks at end (at_state (Formals p [])) (after_symbol p (so_far xs)) e (so.read m p j) (i m p (so_far xs) (stands m p j))
 
-pub first-symbol : (b : Bool) (xs : List Pattern) → b ≡ (length xs == 0) → b ≡ is_empty xs
+pub first-symbol : (b : Bool) (xs : List PatternSymbol) → b ≡ (length xs == 0) → b ≡ is_empty xs
 first-symbol b [] h = h
 first-symbol b (x ∷ xs) h = h ∙ by (length xs)
   where

@@ -16,11 +16,11 @@ use Rattle.lsys_expr.specs.Scanned.{IsExtent}
 use Rattle.lsys_text.specs.declared.refusals.PlaceRefusal.{PlaceRefusal}
 use Rattle.lsys_text.specs.declared.refusals.PlaceRefusal.TheVariants as places
 use Rattle.lsys_reading.specs.declared.refusal.PartRefusal.{PartRefusal}
-use Rattle.lsys_reading.specs.declared.glyph.Glyph.{Glyph}
-use Rattle.lsys_reading.specs.declared.glyph.Glyph.TheVariants as glyphs
+use Rattle.lsys_reading.specs.declared.glyph.RuleGlyph.{RuleGlyph}
+use Rattle.lsys_reading.specs.declared.glyph.RuleGlyph.TheVariants as glyphs
 use Rattle.lsys_reading.specs.declared.form.Form.{Form}
 use Rattle.lsys_reading.specs.declared.form.Form.TheVariants.{Production, Homomorphism}
-use Rattle.lsys_reading.specs.declared.span.Span.{Span}
+use Rattle.lsys_reading.specs.declared.span.ExprSpan.{ExprSpan}
 use Rattle.lsys_syntax.specs.RulePoints.{by_extent, at_state, after_head, after_condition, after_weight, after_expr, body_with, stops, too_deep, taken, rule_from, point_from, verdict_at, Leads, head_step, condition_step, weight_step}
 use Rattle.lsys_reading.specs.Glyphs.{IsPeeked, is_colon}
 use Rattle.lsys_reading.specs.Reads.{Refuses}
@@ -42,7 +42,7 @@ some-read zero [] e h = cc
 some-read zero (k ∷ ks) e h = cc
 some-read (suc d) ks e h = omega arith
 
-abbrev span : ℕ → ℕ → Span
+abbrev span : ℕ → ℕ → ExprSpan
 span at to = record { from = at; to = to }
 
 -- an expression of d tokens stands there
@@ -99,7 +99,7 @@ expression-err ks at r i = λ m spot. by m spot r (extent (drop at ks)) refl i
 
 -- 2. the condition
 
-colon-goes : (ks : List Kind) (at : ℕ) (g : Glyph) → IsPeeked ks at g → is_colon g ≡ true → (m : machine.Form) (x : Head) → Leads m ks at (after_head x) (at + 1) (at_state (InExpr (as_condition x) expr_start))
+colon-goes : (ks : List Kind) (at : ℕ) (g : RuleGlyph) → IsPeeked ks at g → is_colon g ≡ true → (m : machine.Form) (x : Head) → Leads m ks at (after_head x) (at + 1) (at_state (InExpr (as_condition x) expr_start))
 colon-goes ks at glyphs.Colon h t m x = leads-token m ks at h.0 (after_head x) h.1 (InExpr (as_condition x) expr_start) (ap (λ k. head_step m k x) h.2) (λ i v. refl)
 colon-goes ks at g h t m x = cc
 
@@ -115,8 +115,8 @@ condition-done m ks at x e = by (drop at ks)
     by [] = refl
     by (k ∷ rest) = ap (λ s. taken at s (rule_from m (at + 1) s rest)) (same k)
 
-module _ (ks : List Kind) (at : ℕ) (g : Glyph) (h : IsPeeked ks at g) (t : is_colon g ≡ true) where
-  pub condition-ok : (s : Span) → IsExpressionRead ks (at + 1) (Ok s) → IsConditionRead ks at (Ok (record { span = Some s; end = s.to }))
+module _ (ks : List Kind) (at : ℕ) (g : RuleGlyph) (h : IsPeeked ks at g) (t : is_colon g ≡ true) where
+  pub condition-ok : (s : ExprSpan) → IsExpressionRead ks (at + 1) (Ok s) → IsConditionRead ks at (Ok (record { span = Some s; end = s.to }))
   condition-ok s i = λ m x.
       let e = expr_at ks s in
       let read = i m (as_condition x) in
@@ -129,7 +129,7 @@ module _ (ks : List Kind) (at : ℕ) (g : Glyph) (h : IsPeeked ks at g) (t : is_
 
 -- 3. the weight
 
-at-goes : (f : Form) (ks : List Kind) (at : ℕ) (g : Glyph) → IsPeeked ks at g → takes_weight f g ≡ true → (x : Head) (c : Option Expr) → Leads (form_in f) ks at (after_condition x c) (at + 1) (at_state (InExpr (as_weight x c) expr_start))
+at-goes : (f : Form) (ks : List Kind) (at : ℕ) (g : RuleGlyph) → IsPeeked ks at g → takes_weight f g ≡ true → (x : Head) (c : Option Expr) → Leads (form_in f) ks at (after_condition x c) (at + 1) (at_state (InExpr (as_weight x c) expr_start))
 at-goes Production ks at glyphs.At h t x c = leads-token production ks at h.0 (after_condition x c) h.1 (InExpr (as_weight x c) expr_start) (ap (λ k. condition_step production k x c) h.2) (λ i v. refl)
 at-goes Production ks at g h t x c = cc
 at-goes Homomorphism ks at g h t x c = cc
@@ -145,8 +145,8 @@ weight-done m ks at x c e = by (drop at ks)
     by [] = refl
     by (k ∷ rest) = ap (λ s. taken at s (rule_from m (at + 1) s rest)) (same k)
 
-module _ (f : Form) (ks : List Kind) (at : ℕ) (g : Glyph) (h : IsPeeked ks at g) (t : takes_weight f g ≡ true) where
-  pub weight-ok : (s : Span) → IsExpressionRead ks (at + 1) (Ok s) → IsWeightRead f ks at (Ok (record { span = Some s; end = s.to }))
+module _ (f : Form) (ks : List Kind) (at : ℕ) (g : RuleGlyph) (h : IsPeeked ks at g) (t : takes_weight f g ≡ true) where
+  pub weight-ok : (s : ExprSpan) → IsExpressionRead ks (at + 1) (Ok s) → IsWeightRead f ks at (Ok (record { span = Some s; end = s.to }))
   weight-ok s i = λ x c.
       let e = expr_at ks s in
       let read = i (form_in f) (as_weight x c) in

@@ -1,6 +1,6 @@
 -- The kinds of tokens, from a place on.
-use Rattle.lsys_reading.specs.declared.glyph.Glyph.{Glyph}
-use Rattle.lsys_reading.specs.declared.glyph.Glyph.TheVariants.{End}
+use Rattle.lsys_reading.specs.declared.glyph.RuleGlyph.{RuleGlyph}
+use Rattle.lsys_reading.specs.declared.glyph.RuleGlyph.TheVariants.{End}
 use Rattle.std.proofs.Common.{subst, ◌≡◌, ◌+◌, ℕ, zero, suc, ◌<◌, ◌≤◌, Option, Some, None, List, [], ◌∷◌, drop, length, map, get_or, Bor, refl, ap, sym, add-one, arith}
 use Rattle.std.specs.Prelude.{IfSome, MatchOption}
 use Rattle.std.specs.List.{HoldsAt}
@@ -43,7 +43,7 @@ form-at (x ∷ ks) (suc at) k rest e g = form-at ks at k rest e g.1
 pub token-form : (ks : List Kind) (at : ℕ) (k : Kind) → Here ks at k → AreTokens ks → IsToken k
 token-form ks at k h g = form-at ks at k (drop (at + 1) ks) h.1 g
 
-pub peeked : (ks : List Kind) (at : ℕ) (k : Kind) (g : Glyph) → Here ks at k → IsGlyph g k → IsPeeked ks at g
+pub peeked : (ks : List Kind) (at : ℕ) (k : Kind) (g : RuleGlyph) → Here ks at k → IsGlyph g k → IsPeeked ks at g
 peeked ks at k End h i = elim i [ ]
 peeked ks at k g h i = (k, h, i)
 

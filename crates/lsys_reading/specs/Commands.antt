@@ -11,8 +11,8 @@ use Rattle.lsys_reading.specs.declared.parts.ListKind.{ListKind}
 use Rattle.lsys_reading.specs.declared.parts.ListKind.TheVariants as lists
 use Rattle.lsys_reading.specs.declared.parts.Lineage.{Lineage as Numbering}
 use Rattle.lsys_reading.specs.declared.parts.Lineage.TheVariants as numberings
-use Rattle.lsys_reading.specs.declared.parts.Parts.{Parts}
-use Rattle.lsys_reading.specs.declared.parts.Parts.TheVariants.{Axiom, Production, Drop, Ignore, Schedule, Seed, Depth, Lattice, Homomorphism, String, Segments, Svg, Show, Quit, Version, Own, Common, Lineage}
+use Rattle.lsys_reading.specs.declared.parts.CommandParts.{CommandParts}
+use Rattle.lsys_reading.specs.declared.parts.CommandParts.TheVariants.{Axiom, Production, Drop, Ignore, Schedule, Seed, Depth, Lattice, Homomorphism, String, Segments, Svg, Show, Quit, Version, Own, Common, Lineage}
 use Rattle.lsys_reading.specs.RuleLines.{rule_at, IsRuleLine}
 use Rattle.lsys_reading.specs.declared.refusal.PartRefusal.{PartRefusal}
 use Rattle.lsys_reading.specs.Lines.{line_at, IsRest}
@@ -40,7 +40,7 @@ abbrev pub axiom_reading : List Kind → Verdict
 axiom_reading ks = line_at ks 1 (InAxiom (Symbols []))
 
 -- the command that has these parts
-abbrev pub parts_command : List Kind → Parts → spec.Command
+abbrev pub parts_command : List Kind → CommandParts → spec.Command
 parts_command ks Axiom = spec.set_axiom (string_in (axiom_reading ks))
 parts_command ks (Production p) = spec.put_production p.table p.label (rule_at ks p.rule)
 parts_command ks (Drop l) = spec.drop_rule l
@@ -61,15 +61,15 @@ parts_command ks (Common t) = spec.drop_own t
 parts_command ks (Lineage g) = spec.set_numbering (numbering_of g)
 
 -- After the word of a line, where the reading is in this state, stand the parts of a command.
-abbrev pub IsCommandRest : List Kind → State → Result Parts PartRefusal → Type 0
+abbrev pub IsCommandRest : List Kind → State → Result CommandParts PartRefusal → Type 0
 IsCommandRest ks s result = IsRest ks 1 s (parts_command ks) result
 
 -- After the word of a command that is this word alone the line ends.
-abbrev pub IsCommandEnd : List Kind → Parts → Result Parts PartRefusal → Type 0
+abbrev pub IsCommandEnd : List Kind → CommandParts → Result CommandParts PartRefusal → Type 0
 IsCommandEnd ks parts result = IsCommandRest ks (Whole (parts_command ks parts)) result
 
 -- An axiom's string is one, and every expression of a rule stands at its span.
-abbrev pub AreParts : List Kind → Parts → Type 0
+abbrev pub AreParts : List Kind → CommandParts → Type 0
 AreParts ks Axiom = axiom_reading ks ≡ sentence (spec.set_axiom (string_in (axiom_reading ks)))
 AreParts ks (Production p) = IsRuleLine ks p.rule
 AreParts ks (Homomorphism p) = IsRuleLine ks p.rule

@@ -10,13 +10,13 @@ use Rattle.lsys_reading.specs.Reads.{IsRead}
 use Rattle.lsys_reading.specs.Patterns.{symbol_read, is_empty}
 use Rattle.lsys_reading.specs.declared.refusal.PartRefusal.{PartRefusal}
 use Rattle.lsys_reading.specs.declared.refusal.PartRefusal.TheVariants.{Token}
-use Rattle.lsys_reading.specs.declared.glyph.Glyph.{Glyph}
-use Rattle.lsys_reading.specs.declared.glyph.Glyph.TheVariants.{Less, Greater, At}
+use Rattle.lsys_reading.specs.declared.glyph.RuleGlyph.{RuleGlyph}
+use Rattle.lsys_reading.specs.declared.glyph.RuleGlyph.TheVariants.{Less, Greater, At}
 use Rattle.lsys_reading.specs.declared.form.Form.{Form}
 use Rattle.lsys_reading.specs.declared.form.Form.TheVariants.{Production, Homomorphism}
 use Rattle.lsys_reading.specs.declared.patterns.PatternModule.{PatternModule}
-use Rattle.lsys_reading.specs.declared.patterns.Pattern.{Pattern}
-use Rattle.lsys_reading.specs.declared.patterns.Pattern.TheVariants as patterns
+use Rattle.lsys_reading.specs.declared.patterns.PatternSymbol.{PatternSymbol}
+use Rattle.lsys_reading.specs.declared.patterns.PatternSymbol.TheVariants as patterns
 use Rattle.lsys_reading.specs.declared.head.PredecessorRead.{PredecessorRead}
 use Rattle.lsys_reading.specs.declared.head.RightRead.{RightRead}
 use Rattle.lsys_reading.specs.declared.head.HeadRead.{HeadRead}
@@ -25,35 +25,35 @@ abbrev pub form_in : Form → machine.Form
 form_in Production = machine.production
 form_in Homomorphism = machine.homomorphism
 
-abbrev pub takes_left : Form → Bool → Glyph → Bool
+abbrev pub takes_left : Form → Bool → RuleGlyph → Bool
 takes_left Production empty Less = not empty
 takes_left f empty g = false
 
-abbrev pub takes_right : Form → Glyph → Bool
+abbrev pub takes_right : Form → RuleGlyph → Bool
 takes_right Production Greater = true
 takes_right f g = false
 
-abbrev pub takes_weight : Form → Glyph → Bool
+abbrev pub takes_weight : Form → RuleGlyph → Bool
 takes_weight Production At = true
 takes_weight f g = false
 
 -- the module that alone the symbols are
-abbrev pub only_of : List Pattern → Option PatternModule
+abbrev pub only_of : List PatternSymbol → Option PatternModule
 only_of (patterns.Module x ∷ []) = Some x
 only_of xs = None
 
 -- a predecessor that is the only one of some symbols; or there is none
-abbrev pub IsSingle : List Pattern → List Pattern → ℕ → Result PredecessorRead PartRefusal → Type 0
+abbrev pub IsSingle : List PatternSymbol → List PatternSymbol → ℕ → Result PredecessorRead PartRefusal → Type 0
 IsSingle left xs end (Ok x) = (x.left.items ≡ left) × (x.end ≡ end) × (only_of xs ≡ Some x.predecessor)
 IsSingle left xs end (Err (Token place)) = (place ≡ end) × (only_of xs ≡ None)
 IsSingle left xs end (Err e) = ⊥
 
 -- a right context
-abbrev pub IsContext : Bool → List Pattern → ℕ → Type 0
+abbrev pub IsContext : Bool → List PatternSymbol → ℕ → Type 0
 IsContext true xs branches = (is_empty xs ≡ false) × (branches ≡ 0)
 IsContext false xs branches = (is_empty xs ≡ true) ⊎ (0 < branches)
 
-abbrev pub patterns_of : List Pattern → List (S.Symbol NameText)
+abbrev pub patterns_of : List PatternSymbol → List (S.Symbol NameText)
 patterns_of xs = map symbol_read xs
 
 abbrev pub formals_of : PatternModule → List NameText

@@ -12,16 +12,16 @@ use Rattle.lsys_reading.specs.Reads.{Refuses, IsRead}
 use Rattle.lsys_reading.specs.Heads.{form_in}
 use Rattle.lsys_reading.specs.Spans.{expr_at, AreSpans}
 use Rattle.lsys_reading.specs.declared.refusal.PartRefusal.{PartRefusal}
-use Rattle.lsys_reading.specs.declared.glyph.Glyph.{Glyph}
-use Rattle.lsys_reading.specs.declared.glyph.Glyph.TheVariants as glyphs
+use Rattle.lsys_reading.specs.declared.glyph.RuleGlyph.{RuleGlyph}
+use Rattle.lsys_reading.specs.declared.glyph.RuleGlyph.TheVariants as glyphs
 use Rattle.lsys_reading.specs.declared.glyph.Separator.{Separator}
 use Rattle.lsys_reading.specs.declared.glyph.Separator.TheVariants as separators
 use Rattle.lsys_reading.specs.declared.form.Form.{Form}
 use Rattle.lsys_reading.specs.declared.form.Form.TheVariants.{Production, Homomorphism}
-use Rattle.lsys_reading.specs.declared.span.Span.{Span}
+use Rattle.lsys_reading.specs.declared.span.ExprSpan.{ExprSpan}
 use Rattle.lsys_reading.specs.declared.images.ImageModule.{ImageModule}
-use Rattle.lsys_reading.specs.declared.images.Image.{Image}
-use Rattle.lsys_reading.specs.declared.images.Image.TheVariants as images
+use Rattle.lsys_reading.specs.declared.images.ImageSymbol.{ImageSymbol}
+use Rattle.lsys_reading.specs.declared.images.ImageSymbol.TheVariants as images
 use Rattle.lsys_reading.specs.declared.images.ImageOpening.{ImageOpening}
 use Rattle.lsys_reading.specs.declared.images.ImageOpening.TheVariants as openings
 use Rattle.lsys_reading.specs.declared.images.ParamRead.{ParamRead}
@@ -29,31 +29,31 @@ use Rattle.lsys_reading.specs.declared.images.ParamsRead.{ParamsRead}
 use Rattle.lsys_reading.specs.declared.images.ImageModuleRead.{ImageModuleRead}
 use Rattle.lsys_reading.specs.declared.images.ImageRead.{ImageRead}
 
-abbrev pub params_at : List Kind → List Span → List Expr
+abbrev pub params_at : List Kind → List ExprSpan → List Expr
 params_at ks ss = map (expr_at ks) ss
 
 abbrev pub module_at : List Kind → ImageModule → S.Symbol Expr
 module_at ks x = S.Module (module_name x.name) (params_at ks x.params.items)
 
-abbrev pub image_at : List Kind → Image → S.Symbol Expr
+abbrev pub image_at : List Kind → ImageSymbol → S.Symbol Expr
 image_at ks (images.Module x) = module_at ks x
 image_at ks images.Push = S.Push
 image_at ks images.Pop = S.Pop
 image_at ks images.Cut = S.Cut
 
-abbrev pub images_at : List Kind → List Image → List (S.Symbol Expr)
+abbrev pub images_at : List Kind → List ImageSymbol → List (S.Symbol Expr)
 images_at ks xs = map (image_at ks) xs
 
 -- Every expression of the symbols stands at its span.
-abbrev pub ImageIsAt : List Kind → Image → Type 0
+abbrev pub ImageIsAt : List Kind → ImageSymbol → Type 0
 ImageIsAt ks (images.Module x) = AreSpans ks x.params.items
 ImageIsAt ks x = Unit {0}
 
-abbrev pub ImagesAreAt : List Kind → List Image → Type 0
+abbrev pub ImagesAreAt : List Kind → List ImageSymbol → Type 0
 ImagesAreAt ks [] = Unit {0}
 ImagesAreAt ks (x ∷ xs) = ImageIsAt ks x × ImagesAreAt ks xs
 
-abbrev pub image_branches : Image → ℕ → ℕ
+abbrev pub image_branches : ImageSymbol → ℕ → ℕ
 image_branches images.Push b = b + 1
 image_branches images.Pop b = b - 1
 image_branches x b = b
@@ -68,7 +68,7 @@ abbrev pub has_cuts : Form → Bool
 has_cuts Production = true
 has_cuts Homomorphism = false
 
-abbrev pub image_opening_of : Form → ℕ → Glyph → Option ImageOpening
+abbrev pub image_opening_of : Form → ℕ → RuleGlyph → Option ImageOpening
 image_opening_of f b (glyphs.Letters x) = Some (openings.Name x)
 image_opening_of f b (glyphs.Sign x) = Some (openings.Name x)
 image_opening_of f b glyphs.Push = Some openings.Push
@@ -102,6 +102,6 @@ IsImageRead f branches ks at result = (b : Premise) (r : List (S.Symbol Expr)) �
     → IsRead (form_in f) ks at (after_image b r) (λ x. x.end) (λ x. after_image b (image_at ks x.symbol ∷ r)) result
 
 -- the rule is whole after the symbols, which reach to the line's end; or it is refused
-abbrev pub IsSuccessorRead : Form → List Kind → ℕ → Result (Vec Image Global) PartRefusal → Type 0
+abbrev pub IsSuccessorRead : Form → List Kind → ℕ → Result (Vec ImageSymbol Global) PartRefusal → Type 0
 IsSuccessorRead f ks at (Ok xs) = (b : Premise) → verdict_at (form_in f) ks at (at_state (Successor b [])) ≡ whole (rule_with b (images_at ks xs.items))
 IsSuccessorRead f ks at (Err e) = (b : Premise) → Refuses (form_in f) ks at (at_state (Successor b [])) e

@@ -1,7 +1,7 @@
 -- How a command is kept.
 use Rattle.std.specs.Prelude.{List}
 use Rattle.lsys_text.specs.declared.token_kind.Token.{Token}
-use Rattle.lsys_reading.specs.declared.command.Command.TheInside.{Inside}
+use Rattle.lsys_reading.specs.declared.command.ReadCommand.TheInside.{Inside}
 use Rattle.lsys_reading.specs.Tokens.{kinds_in}
 use Rattle.lsys_reading.specs.Parted.{IsParted}
 

@@ -6,11 +6,11 @@ use Rattle.lsys_syntax.specs.LineMachine.{sentence, stops, too_deep, verdict}
 use Rattle.lsys_spec.specs.Refusals.{column_at}
 use Rattle.lsys_text.specs.Tokens.{kind_row, token_of}
 use Rattle.lsys_text.specs.declared.token_kind.Token.{Token}
-use Rattle.lsys_reading.specs.declared.command.Command.{Command}
+use Rattle.lsys_reading.specs.declared.command.ReadCommand.{ReadCommand}
 use Rattle.lsys_reading.specs.declared.command.CommandKind.{CommandKind}
 use Rattle.lsys_reading.specs.declared.command.CommandKind.TheVariants as kinds
-use Rattle.lsys_reading.specs.declared.refusal.Refusal.{Refusal}
-use Rattle.lsys_reading.specs.declared.refusal.Refusal.TheVariants as refusals
+use Rattle.lsys_reading.specs.declared.refusal.ReadingRefusal.{ReadingRefusal}
+use Rattle.lsys_reading.specs.declared.refusal.ReadingRefusal.TheVariants as refusals
 use Rattle.lsys_reading.specs.Parted.{command_of}
 
 abbrev pub kind_of_command : spec.Command → CommandKind
@@ -32,7 +32,7 @@ BeginsCommand ks false = verdict ks ≡ stops 0
 
 -- The command that the tokens spell, or the column of the first token with which none goes on; memory is wanted only by a
 -- line that begins with the word of a command.
-abbrev pub IsParsed : List Token → ℕ → Result Command Refusal → Type 0
+abbrev pub IsParsed : List Token → ℕ → Result ReadCommand ReadingRefusal → Type 0
 IsParsed ts bytes (Ok c) = (c ≡ ts) × (verdict (kind_row ts) ≡ sentence (command_of ts))
 IsParsed ts bytes (Err (refusals.Token column)) = (place : ℕ) × (verdict (kind_row ts) ≡ stops place) × (column ≡ column_of bytes ts place)
 IsParsed ts bytes (Err (refusals.Deep column)) = (place : ℕ) × (verdict (kind_row ts) ≡ too_deep place) × (column ≡ column_of bytes ts place)

@@ -8,11 +8,11 @@ use Rattle.lsys_module.specs.Views.{module_name}
 use Rattle.lsys_syntax.specs.RulePoints.{Point, at_state, after_symbol, after_symbols}
 use Rattle.lsys_reading.specs.Reads.{IsRead}
 use Rattle.lsys_reading.specs.declared.refusal.PartRefusal.{PartRefusal}
-use Rattle.lsys_reading.specs.declared.glyph.Glyph.{Glyph}
-use Rattle.lsys_reading.specs.declared.glyph.Glyph.TheVariants as glyphs
+use Rattle.lsys_reading.specs.declared.glyph.RuleGlyph.{RuleGlyph}
+use Rattle.lsys_reading.specs.declared.glyph.RuleGlyph.TheVariants as glyphs
 use Rattle.lsys_reading.specs.declared.patterns.PatternModule.{PatternModule}
-use Rattle.lsys_reading.specs.declared.patterns.Pattern.{Pattern}
-use Rattle.lsys_reading.specs.declared.patterns.Pattern.TheVariants as patterns
+use Rattle.lsys_reading.specs.declared.patterns.PatternSymbol.{PatternSymbol}
+use Rattle.lsys_reading.specs.declared.patterns.PatternSymbol.TheVariants as patterns
 use Rattle.lsys_reading.specs.declared.patterns.Section.{Section}
 use Rattle.lsys_reading.specs.declared.patterns.Section.TheVariants.{First, Alone, Right}
 use Rattle.lsys_reading.specs.declared.patterns.Standing.{Standing}
@@ -25,13 +25,13 @@ use Rattle.lsys_reading.specs.declared.patterns.PatternsRead.{PatternsRead}
 abbrev pub module_read : PatternModule → S.Symbol NameText
 module_read x = S.Module (module_name x.name) (map name_of x.formals.items)
 
-abbrev pub symbol_read : Pattern → S.Symbol NameText
+abbrev pub symbol_read : PatternSymbol → S.Symbol NameText
 symbol_read (patterns.Module x) = module_read x
 symbol_read patterns.Push = S.Push
 symbol_read patterns.Pop = S.Pop
 
 -- the symbols that were read, the last one first
-abbrev pub so_far : List Pattern → List (S.Symbol NameText)
+abbrev pub so_far : List PatternSymbol → List (S.Symbol NameText)
 so_far xs = reversed (map symbol_read xs)
 
 abbrev pub branches_behind : S.Symbol NameText → ℕ → ℕ
@@ -54,7 +54,7 @@ abbrev pub opening_where : Bool → Opening → Option Opening
 opening_where true o = Some o
 opening_where false o = None
 
-abbrev pub opening_of : Standing → Glyph → Option Opening
+abbrev pub opening_of : Standing → RuleGlyph → Option Opening
 opening_of st (glyphs.Letters x) = opening_where (takes_name st.section st.is_first) (openings.Name x)
 opening_of st (glyphs.Sign x) = opening_where (takes_name st.section st.is_first) (openings.Name x)
 opening_of st glyphs.Push = opening_where (is_right st.section) openings.Push

@@ -11,36 +11,36 @@ use Rattle.lsys_reading.specs.Reads.{IsRead}
 use Rattle.lsys_reading.specs.Heads.{form_in}
 use Rattle.lsys_reading.specs.declared.refusal.PartRefusal.{PartRefusal}
 use Rattle.lsys_reading.specs.declared.form.Form.{Form}
-use Rattle.lsys_reading.specs.declared.span.Span.{Span}
+use Rattle.lsys_reading.specs.declared.span.ExprSpan.{ExprSpan}
 use Rattle.lsys_reading.specs.declared.span.OptionRead.{OptionRead}
 
 -- the tokens of a span
-abbrev pub part : List Kind → Span → List Kind
+abbrev pub part : List Kind → ExprSpan → List Kind
 part ks s = take (s.to - s.from) (drop s.from ks)
 
 -- the expression that they spell
-abbrev pub expr_at : List Kind → Span → Expr
+abbrev pub expr_at : List Kind → ExprSpan → Expr
 expr_at ks s = unwrap_or (read_expr (part ks s)) any_expr
 
 -- The span lies within the tokens, and an expression is spelled there.
-pub record IsSpan (ks : List Kind) (s : Span) : Type 0 where
+pub record IsSpan (ks : List Kind) (s : ExprSpan) : Type 0 where
   pub ordered : s.from ≤ s.to
   pub within : s.to ≤ length ks
   pub reads : read_expr (part ks s) ≡ Some (expr_at ks s)
   pub kinds : expr_kinds (expr_at ks s) ≡ part ks s
 
-abbrev pub AreSpans : List Kind → List Span → Type 0
+abbrev pub AreSpans : List Kind → List ExprSpan → Type 0
 AreSpans ks [] = Unit {0}
 AreSpans ks (s ∷ ss) = IsSpan ks s × AreSpans ks ss
 
-abbrev pub ConditionIsSpan : List Kind → Option Span → Type 0
+abbrev pub ConditionIsSpan : List Kind → Option ExprSpan → Type 0
 ConditionIsSpan ks None = Unit {0}
 ConditionIsSpan ks (Some s) = IsSpan ks s
 
-abbrev pub option_at : List Kind → Option Span → Option Expr
+abbrev pub option_at : List Kind → Option ExprSpan → Option Expr
 option_at ks o = option_map (expr_at ks) o
 
-abbrev pub IsExpressionRead : List Kind → ℕ → Result Span PartRefusal → Type 0
+abbrev pub IsExpressionRead : List Kind → ℕ → Result ExprSpan PartRefusal → Type 0
 IsExpressionRead ks at result = (m : machine.Form) (spot : Spot)
     → IsRead m ks at (at_state (InExpr spot expr_start)) (λ s. s.to) (λ s. after_expr spot (expr_at ks s)) result
 

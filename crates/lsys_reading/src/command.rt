@@ -7,18 +7,18 @@ ghost use Rattle.lsys_reading.specs.Parted.{command_of, IsParted};
 ghost use Rattle.lsys_reading.specs.Parsing.{kind_of_command};
 
 use crate::line_tokens::LineTokens;
-use crate::parts::Parts;
+use crate::parts::CommandParts;
 use lsys_text::Token;
 use std::marker::Model;
 
 /// A line's command: its tokens, and what they are the parts of. Contracts see the tokens, which spell the command.
 #[derive(Drop)]
-pub struct Command {
+pub struct ReadCommand {
     pub(crate) line: LineTokens,
-    pub(crate) parts: Parts,
+    pub(crate) parts: CommandParts,
 }
 
-impl Model for Command {
+impl Model for ReadCommand {
     ghost use Rattle.std.specs.Prelude.{List};
     ghost use Rattle.lsys_text.specs.declared.token_kind.Token.{Token};
 
@@ -48,17 +48,17 @@ pub enum CommandKind {
     Quit,
 }
 
-impl Command {
+impl ReadCommand {
     /// What the command is for.
     pub fn kind(&self) -> CommandKind
         ensures { result ≡ kind_of_command (command_of self.now) }
     {
         match &self.parts {
-            Parts::String(level) => CommandKind::String { level: *level },
-            Parts::Segments => CommandKind::Segments,
-            Parts::Svg => CommandKind::Svg,
-            Parts::Show => CommandKind::Show,
-            Parts::Quit => CommandKind::Quit,
+            CommandParts::String(level) => CommandKind::String { level: *level },
+            CommandParts::Segments => CommandKind::Segments,
+            CommandParts::Svg => CommandKind::Svg,
+            CommandParts::Show => CommandKind::Show,
+            CommandParts::Quit => CommandKind::Quit,
             _ => CommandKind::Edit,
         }
     }
@@ -73,7 +73,7 @@ impl Command {
     }
 
     /// What the tokens are the parts of.
-    pub fn parts(&self) -> &Parts
+    pub fn parts(&self) -> &CommandParts
         ensures { IsParted (kind_row self.now) result.now }
     {
         &self.parts

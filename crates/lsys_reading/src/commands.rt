@@ -9,7 +9,7 @@ ghost use Rattle.lsys_reading.specs.Commands.{list_kind_of, parts_command, ArePa
 use crate::form::Form;
 use crate::heading::{homomorphism_heading, production_heading, table_heading};
 use crate::line_tokens::LineTokens;
-use crate::parts::{LabeledRule, LatticeName, ListKind, OwnList, Parts};
+use crate::parts::{CommandParts, LabeledRule, LatticeName, ListKind, OwnNames};
 use crate::refusal::PartRefusal;
 use crate::rule::rule_line;
 use crate::word::{CommandWord, command_word, lattice_name, numbering_name};
@@ -19,7 +19,7 @@ use lsys_text::Name;
 use std::alloc::Global;
 
 // What the tokens of a line are the parts of.
-pub(crate) fn parts(alloc: Global, line: &LineTokens) -> Result<Parts, PartRefusal>
+pub(crate) fn parts(alloc: Global, line: &LineTokens) -> Result<CommandParts, PartRefusal>
     ensures rest { IsRest (kinds_in line.now) 0 Fresh (parts_command (kinds_in line.now)) result }
     ensures parts { IfOk result (AreParts (kinds_in line.now)) }
 {
@@ -39,7 +39,11 @@ fn command(line: &LineTokens) -> Result<CommandWord, PartRefusal>
 }
 
 // What stands after this word.
-fn parts_behind(alloc: Global, line: &LineTokens, word: CommandWord) -> Result<Parts, PartRefusal>
+fn parts_behind(
+    alloc: Global,
+    line: &LineTokens,
+    word: CommandWord,
+) -> Result<CommandParts, PartRefusal>
     requires { 1 ≤ size line.now }
     ensures rest { IsCommandRest (kinds_in line.now) (word_state word) result }
     ensures parts { IfOk result (AreParts (kinds_in line.now)) }
@@ -55,10 +59,10 @@ fn parts_behind(alloc: Global, line: &LineTokens, word: CommandWord) -> Result<P
         CommandWord::Lattice => lattice(line),
         CommandWord::Homomorphism => homomorphism(alloc, line),
         CommandWord::String => string(line),
-        CommandWord::Segments => alone(line, Parts::Segments),
-        CommandWord::Svg => alone(line, Parts::Svg),
-        CommandWord::Show => alone(line, Parts::Show),
-        CommandWord::Quit => alone(line, Parts::Quit),
+        CommandWord::Segments => alone(line, CommandParts::Segments),
+        CommandWord::Svg => alone(line, CommandParts::Svg),
+        CommandWord::Show => alone(line, CommandParts::Show),
+        CommandWord::Quit => alone(line, CommandParts::Quit),
         CommandWord::Version => version(line),
         CommandWord::Ignoring => own(alloc, line, ListKind::Ignore),
         CommandWord::Consider => own(alloc, line, ListKind::Consider),
@@ -68,25 +72,25 @@ fn parts_behind(alloc: Global, line: &LineTokens, word: CommandWord) -> Result<P
 }
 
 // After `axiom`: a string, whose parameters are numbers.
-fn axiom(line: &LineTokens) -> Result<Parts, PartRefusal>
+fn axiom(line: &LineTokens) -> Result<CommandParts, PartRefusal>
     requires { 1 ≤ size line.now }
     ensures rest { IsCommandRest (kinds_in line.now) (InAxiom (Symbols [])) result }
     ensures parts { IfOk result (AreParts (kinds_in line.now)) }
 {
     match scan_string(&line.tokens, 1) {
-        Ok(()) => Ok(Parts::Axiom),
+        Ok(()) => Ok(CommandParts::Axiom),
         Err(refusal) => Err(PartRefusal::from_place(refusal)),
     }
 }
 
 // After `production`: a table, where it is written, a label, a colon and a rule.
-fn production(alloc: Global, line: &LineTokens) -> Result<Parts, PartRefusal>
+fn production(alloc: Global, line: &LineTokens) -> Result<CommandParts, PartRefusal>
     ensures rest { IsCommandRest (kinds_in line.now) ProductionDue result }
     ensures parts { IfOk result (AreParts (kinds_in line.now)) }
 {
     let heading = production_heading(line)?;
     let rule = rule_line(alloc, line, heading.end, Form::Production)?;
-    Ok(Parts::Production(LabeledRule {
+    Ok(CommandParts::Production(LabeledRule {
         table: heading.table,
         label: heading.label,
         rule,
@@ -94,13 +98,13 @@ fn production(alloc: Global, line: &LineTokens) -> Result<Parts, PartRefusal>
 }
 
 // After `hom`: a label, a colon and a rule.
-fn homomorphism(alloc: Global, line: &LineTokens) -> Result<Parts, PartRefusal>
+fn homomorphism(alloc: Global, line: &LineTokens) -> Result<CommandParts, PartRefusal>
     ensures rest { IsCommandRest (kinds_in line.now) LabelDue result }
     ensures parts { IfOk result (AreParts (kinds_in line.now)) }
 {
     let heading = homomorphism_heading(line)?;
     let rule = rule_line(alloc, line, heading.end, Form::Homomorphism)?;
-    Ok(Parts::Homomorphism(LabeledRule {
+    Ok(CommandParts::Homomorphism(LabeledRule {
         table: heading.table,
         label: heading.label,
         rule,
@@ -108,27 +112,27 @@ fn homomorphism(alloc: Global, line: &LineTokens) -> Result<Parts, PartRefusal>
 }
 
 // After `drop`: a label.
-fn drop(line: &LineTokens) -> Result<Parts, PartRefusal>
+fn drop(line: &LineTokens) -> Result<CommandParts, PartRefusal>
     ensures rest { IsCommandRest (kinds_in line.now) DropDue result }
     ensures parts { IfOk result (AreParts (kinds_in line.now)) }
 {
-    Ok(Parts::Drop(last_word(line)?))
+    Ok(CommandParts::Drop(last_word(line)?))
 }
 
 // After `seed`: a number.
-fn seed(line: &LineTokens) -> Result<Parts, PartRefusal>
+fn seed(line: &LineTokens) -> Result<CommandParts, PartRefusal>
     ensures rest { IsCommandRest (kinds_in line.now) SeedDue result }
     ensures parts { IfOk result (AreParts (kinds_in line.now)) }
 {
-    Ok(Parts::Seed(last_number(line)?))
+    Ok(CommandParts::Seed(last_number(line)?))
 }
 
 // After `depth`: a number.
-fn depth(line: &LineTokens) -> Result<Parts, PartRefusal>
+fn depth(line: &LineTokens) -> Result<CommandParts, PartRefusal>
     ensures rest { IsCommandRest (kinds_in line.now) DepthDue result }
     ensures parts { IfOk result (AreParts (kinds_in line.now)) }
 {
-    Ok(Parts::Depth(last_number(line)?))
+    Ok(CommandParts::Depth(last_number(line)?))
 }
 
 // Names, from a place up to the line's end.
@@ -148,56 +152,56 @@ fn names(alloc: Global, line: &LineTokens, from: usize) -> Result<Vec<Name>, Par
 }
 
 // After `ignore`: names.
-fn ignore(alloc: Global, line: &LineTokens) -> Result<Parts, PartRefusal>
+fn ignore(alloc: Global, line: &LineTokens) -> Result<CommandParts, PartRefusal>
     requires { 1 ≤ size line.now }
     ensures rest { IsCommandRest (kinds_in line.now) (InNames of_ignored []) result }
     ensures parts { IfOk result (AreParts (kinds_in line.now)) }
 {
-    Ok(Parts::Ignore(names(alloc, line, 1)?))
+    Ok(CommandParts::Ignore(names(alloc, line, 1)?))
 }
 
 // After `ignoring` or `consider`: a table, a colon and names.
-fn own(alloc: Global, line: &LineTokens, kind: ListKind) -> Result<Parts, PartRefusal>
+fn own(alloc: Global, line: &LineTokens, kind: ListKind) -> Result<CommandParts, PartRefusal>
     ensures rest { IsCommandRest (kinds_in line.now) (TableDue (list_kind_of kind)) result }
     ensures parts { IfOk result (AreParts (kinds_in line.now)) }
 {
     let table = table_heading(line)?;
     let names = names(alloc, line, 3)?;
-    Ok(Parts::Own(OwnList { kind, table, names }))
+    Ok(CommandParts::Own(OwnNames { kind, table, names }))
 }
 
 // After `common`: a table.
-fn common(line: &LineTokens) -> Result<Parts, PartRefusal>
+fn common(line: &LineTokens) -> Result<CommandParts, PartRefusal>
     ensures rest { IsCommandRest (kinds_in line.now) CommonDue result }
     ensures parts { IfOk result (AreParts (kinds_in line.now)) }
 {
-    Ok(Parts::Common(last_word(line)?))
+    Ok(CommandParts::Common(last_word(line)?))
 }
 
 // After `version`: a number.
-fn version(line: &LineTokens) -> Result<Parts, PartRefusal>
+fn version(line: &LineTokens) -> Result<CommandParts, PartRefusal>
     ensures rest { IsCommandRest (kinds_in line.now) VersionDue result }
     ensures parts { IfOk result (AreParts (kinds_in line.now)) }
 {
-    Ok(Parts::Version(last_number(line)?))
+    Ok(CommandParts::Version(last_number(line)?))
 }
 
 // After `lineage`: the name of a numbering.
-fn lineage(line: &LineTokens) -> Result<Parts, PartRefusal>
+fn lineage(line: &LineTokens) -> Result<CommandParts, PartRefusal>
     ensures rest { IsCommandRest (kinds_in line.now) NumberingDue result }
     ensures parts { IfOk result (AreParts (kinds_in line.now)) }
 {
     match numbering_name(word(line, 1)?) {
         Some(numbering) => {
             end(line, 2)?;
-            Ok(Parts::Lineage(numbering))
+            Ok(CommandParts::Lineage(numbering))
         }
         None => Err(PartRefusal::Token { place: 1 }),
     }
 }
 
 // After `schedule`: words, one at least.
-fn schedule(alloc: Global, line: &LineTokens) -> Result<Parts, PartRefusal>
+fn schedule(alloc: Global, line: &LineTokens) -> Result<CommandParts, PartRefusal>
     ensures rest { IsCommandRest (kinds_in line.now) ScheduleDue result }
     ensures parts { IfOk result (AreParts (kinds_in line.now)) }
 {
@@ -211,36 +215,36 @@ fn schedule(alloc: Global, line: &LineTokens) -> Result<Parts, PartRefusal>
             .map_err(|_| PartRefusal::Memory)?;
         at += 1;
     }
-    Ok(Parts::Schedule(tables))
+    Ok(CommandParts::Schedule(tables))
 }
 
 // After `lattice`: the name of one.
-fn lattice(line: &LineTokens) -> Result<Parts, PartRefusal>
+fn lattice(line: &LineTokens) -> Result<CommandParts, PartRefusal>
     ensures rest { IsCommandRest (kinds_in line.now) LatticeDue result }
     ensures parts { IfOk result (AreParts (kinds_in line.now)) }
 {
     match lattice_name(word(line, 1)?) {
         Some(name) => {
             end(line, 2)?;
-            Ok(Parts::Lattice(name))
+            Ok(CommandParts::Lattice(name))
         }
         None => Err(PartRefusal::Token { place: 1 }),
     }
 }
 
 // After `string`: a level's number, or nothing.
-fn string(line: &LineTokens) -> Result<Parts, PartRefusal>
+fn string(line: &LineTokens) -> Result<CommandParts, PartRefusal>
     ensures rest { IsCommandRest (kinds_in line.now) StringRead result }
     ensures parts { IfOk result (AreParts (kinds_in line.now)) }
 {
     if line.len() <= 1 {
-        return Ok(Parts::String(None));
+        return Ok(CommandParts::String(None));
     }
-    Ok(Parts::String(Some(last_number(line)?)))
+    Ok(CommandParts::String(Some(last_number(line)?)))
 }
 
 // After the word of a command that is this word alone: nothing.
-fn alone(line: &LineTokens, parts: Parts) -> Result<Parts, PartRefusal>
+fn alone(line: &LineTokens, parts: CommandParts) -> Result<CommandParts, PartRefusal>
     ensures end { IsCommandEnd (kinds_in line.now) parts result }
     ensures parts { IfOk result (λ p. p ≡ parts) }
 {

@@ -17,7 +17,7 @@ pub(crate) enum Separator {
 
 /// What a token is to a rule.
 #[derive(Clone, Copy)]
-pub(crate) enum Glyph {
+pub(crate) enum RuleGlyph {
     /// The name of a module or of a formal.
     Letters(Name),
     /// A mark that is the name of a module.
@@ -51,46 +51,46 @@ pub(crate) enum Glyph {
 }
 
 // What stands at a place.
-pub(crate) fn peek(line: &LineTokens, at: usize) -> Glyph
+pub(crate) fn peek(line: &LineTokens, at: usize) -> RuleGlyph
     ensures { IsPeeked (kinds_in line.now) at result }
 {
     match line.at(at) {
-        Some(token) => Glyph::of(token.kind),
-        None => Glyph::End,
+        Some(token) => RuleGlyph::of(token.kind),
+        None => RuleGlyph::End,
     }
 }
 
-impl Glyph {
-    fn of(kind: TokenKind) -> Glyph
+impl RuleGlyph {
+    fn of(kind: TokenKind) -> RuleGlyph
         requires { IsToken (kind_of kind) }
         ensures { IsGlyph result (kind_of kind) }
     {
         match kind {
-            TokenKind::Name(name) => Glyph::Letters(name),
-            TokenKind::Arrow => Glyph::Arrow,
-            TokenKind::Mark(mark) => Glyph::of_mark(mark),
-            _ => Glyph::Other,
+            TokenKind::Name(name) => RuleGlyph::Letters(name),
+            TokenKind::Arrow => RuleGlyph::Arrow,
+            TokenKind::Mark(mark) => RuleGlyph::of_mark(mark),
+            _ => RuleGlyph::Other,
         }
     }
 
-    fn of_mark(mark: u8) -> Glyph
+    fn of_mark(mark: u8) -> RuleGlyph
         ensures { IsGlyph result (mark_kind mark) }
     {
         match mark {
             b'+' | b'-' | b'&' | b'^' | b'\\' | b'/' | b'|' | b'!' => {
-                Glyph::Sign(Name::from_mark(mark))
+                RuleGlyph::Sign(Name::from_mark(mark))
             }
-            b'[' => Glyph::Push,
-            b']' => Glyph::Pop,
-            b'%' => Glyph::Cut,
-            b'(' => Glyph::Open,
-            b')' => Glyph::Close,
-            b',' => Glyph::Comma,
-            b':' => Glyph::Colon,
-            b'@' => Glyph::At,
-            b'<' => Glyph::Less,
-            b'>' => Glyph::Greater,
-            _ => Glyph::Other,
+            b'[' => RuleGlyph::Push,
+            b']' => RuleGlyph::Pop,
+            b'%' => RuleGlyph::Cut,
+            b'(' => RuleGlyph::Open,
+            b')' => RuleGlyph::Close,
+            b',' => RuleGlyph::Comma,
+            b':' => RuleGlyph::Colon,
+            b'@' => RuleGlyph::At,
+            b'<' => RuleGlyph::Less,
+            b'>' => RuleGlyph::Greater,
+            _ => RuleGlyph::Other,
         }
     }
 
@@ -99,7 +99,7 @@ impl Glyph {
         ensures { result ≡ glyph_formal self }
     {
         match self {
-            Glyph::Letters(name) => Some(name),
+            RuleGlyph::Letters(name) => Some(name),
             _ => None,
         }
     }
@@ -109,7 +109,7 @@ impl Glyph {
         ensures { result ≡ glyph_name self }
     {
         match self {
-            Glyph::Letters(name) | Glyph::Sign(name) => Some(name),
+            RuleGlyph::Letters(name) | RuleGlyph::Sign(name) => Some(name),
             _ => None,
         }
     }
@@ -118,8 +118,8 @@ impl Glyph {
         ensures { result ≡ separator_of self }
     {
         match self {
-            Glyph::Comma => Some(Separator::Comma),
-            Glyph::Close => Some(Separator::Close),
+            RuleGlyph::Comma => Some(Separator::Comma),
+            RuleGlyph::Close => Some(Separator::Close),
             _ => None,
         }
     }
@@ -127,18 +127,18 @@ impl Glyph {
     pub(crate) fn is_open(self) -> bool
         ensures { result ≡ is_opening self }
     {
-        matches!(self, Glyph::Open)
+        matches!(self, RuleGlyph::Open)
     }
 
     pub(crate) fn is_colon(self) -> bool
         ensures { result ≡ is_colon self }
     {
-        matches!(self, Glyph::Colon)
+        matches!(self, RuleGlyph::Colon)
     }
 
     pub(crate) fn is_arrow(self) -> bool
         ensures { result ≡ is_arrow self }
     {
-        matches!(self, Glyph::Arrow)
+        matches!(self, RuleGlyph::Arrow)
     }
 }

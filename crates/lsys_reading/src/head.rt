@@ -6,14 +6,14 @@ ghost use Rattle.lsys_reading.specs.Heads.{only_of, IsSingle, IsContext, IsPrede
 use crate::form::Form;
 use crate::glyph::peek;
 use crate::line_tokens::LineTokens;
-use crate::patterns::{Pattern, PatternModule, PatternsRead, Section, patterns};
+use crate::patterns::{PatternModule, PatternSymbol, PatternsRead, Section, patterns};
 use crate::refusal::PartRefusal;
 use std::alloc::Global;
 
 /// A left context and a predecessor, up to the token after them.
 #[derive(Drop)]
 pub(crate) struct PredecessorRead {
-    pub left: Vec<Pattern>,
+    pub left: Vec<PatternSymbol>,
     pub predecessor: PatternModule,
     pub end: usize,
 }
@@ -21,21 +21,21 @@ pub(crate) struct PredecessorRead {
 /// A right context, where there is one, up to the token after it.
 #[derive(Drop)]
 pub(crate) struct RightRead {
-    pub right: Vec<Pattern>,
+    pub right: Vec<PatternSymbol>,
     pub end: usize,
 }
 
 /// Contexts and predecessor, up to the token after them.
 #[derive(Drop)]
 pub(crate) struct HeadRead {
-    pub left: Vec<Pattern>,
+    pub left: Vec<PatternSymbol>,
     pub predecessor: PatternModule,
-    pub right: Vec<Pattern>,
+    pub right: Vec<PatternSymbol>,
     pub end: usize,
 }
 
 // The module that alone the symbols are.
-fn only(symbols: Vec<Pattern>) -> Option<PatternModule>
+fn only(symbols: Vec<PatternSymbol>) -> Option<PatternModule>
     ensures { result ≡ only_of symbols.items }
 {
     let mut symbols = symbols;
@@ -43,15 +43,15 @@ fn only(symbols: Vec<Pattern>) -> Option<PatternModule>
         return None;
     }
     match symbols.pop() {
-        Some(Pattern::Module(pattern)) => Some(pattern),
+        Some(PatternSymbol::Module(pattern)) => Some(pattern),
         _ => None,
     }
 }
 
 // A predecessor alone, after a left context.
 fn single(
-    left: Vec<Pattern>,
-    symbols: Vec<Pattern>,
+    left: Vec<PatternSymbol>,
+    symbols: Vec<PatternSymbol>,
     end: usize,
 ) -> Result<PredecessorRead, PartRefusal>
     ensures { IsSingle left.items symbols.items end result }

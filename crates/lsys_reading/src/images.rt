@@ -5,10 +5,10 @@ ghost use Rattle.lsys_reading.specs.Spans.{IsSpan, AreSpans};
 ghost use Rattle.lsys_reading.specs.Images.{image_opening_of, image_branches, ImageIsAt, ImagesAreAt, IsParamRead, AreParamsRead, IsImageModuleRead, IsImageRead, IsSuccessorRead};
 
 use crate::form::Form;
-use crate::glyph::{Glyph, Separator, peek};
+use crate::glyph::{RuleGlyph, Separator, peek};
 use crate::line_tokens::LineTokens;
 use crate::refusal::PartRefusal;
-use crate::span::{Span, expression};
+use crate::span::{ExprSpan, expression};
 use lsys_text::Name;
 use std::alloc::Global;
 
@@ -16,12 +16,12 @@ use std::alloc::Global;
 #[derive(Drop)]
 pub struct ImageModule {
     pub name: Name,
-    pub params: Vec<Span>,
+    pub params: Vec<ExprSpan>,
 }
 
 /// A symbol of a successor.
 #[derive(Drop)]
-pub enum Image {
+pub enum ImageSymbol {
     Module(ImageModule),
     Push,
     Pop,
@@ -40,14 +40,14 @@ pub(crate) enum ImageOpening {
 /// A parameter, and what stands after it.
 #[derive(Clone, Copy)]
 pub(crate) struct ParamRead {
-    pub span: Span,
+    pub span: ExprSpan,
     pub separator: Separator,
 }
 
 /// Parameters, up to the token after their parenthesis.
 #[derive(Drop)]
 pub(crate) struct ParamsRead {
-    pub params: Vec<Span>,
+    pub params: Vec<ExprSpan>,
     pub end: usize,
 }
 
@@ -61,31 +61,31 @@ pub(crate) struct ImageModuleRead {
 /// A symbol, up to the token after it.
 #[derive(Drop)]
 pub(crate) struct ImageRead {
-    pub symbol: Image,
+    pub symbol: ImageSymbol,
     pub end: usize,
 }
 
 // The symbol that begins with a token, where so many branches are open.
-fn image_opening(form: Form, branches: usize, glyph: Glyph) -> Option<ImageOpening>
+fn image_opening(form: Form, branches: usize, glyph: RuleGlyph) -> Option<ImageOpening>
     ensures { result ≡ image_opening_of form branches glyph }
 {
     match glyph {
-        Glyph::Letters(name) | Glyph::Sign(name) => Some(ImageOpening::Name(name)),
-        Glyph::Push => Some(ImageOpening::Push),
-        Glyph::Pop if branches > 0 => Some(ImageOpening::Pop),
-        Glyph::Cut if form == Form::Production => Some(ImageOpening::Cut),
+        RuleGlyph::Letters(name) | RuleGlyph::Sign(name) => Some(ImageOpening::Name(name)),
+        RuleGlyph::Push => Some(ImageOpening::Push),
+        RuleGlyph::Pop if branches > 0 => Some(ImageOpening::Pop),
+        RuleGlyph::Cut if form == Form::Production => Some(ImageOpening::Cut),
         _ => None,
     }
 }
 
 // How many branches are open after a symbol.
-fn image_branches(symbol: &Image, branches: usize) -> usize
+fn image_branches(symbol: &ImageSymbol, branches: usize) -> usize
     requires { branches < usize.MAX }
     ensures { result ≡ image_branches symbol.now branches }
 {
     match symbol {
-        Image::Push => branches + 1,
-        Image::Pop => branches.saturating_sub(1),
+        ImageSymbol::Push => branches + 1,
+        ImageSymbol::Pop => branches.saturating_sub(1),
         _ => branches,
     }
 }
@@ -173,13 +173,13 @@ fn image_symbol(
         ImageOpening::Name(name) => {
             let ImageModuleRead { image, end } = image_module(alloc, line, end, name)?;
             return Ok(ImageRead {
-                symbol: Image::Module(image),
+                symbol: ImageSymbol::Module(image),
                 end,
             });
         }
-        ImageOpening::Push => Image::Push,
-        ImageOpening::Pop => Image::Pop,
-        ImageOpening::Cut => Image::Cut,
+        ImageOpening::Push => ImageSymbol::Push,
+        ImageOpening::Pop => ImageSymbol::Pop,
+        ImageOpening::Cut => ImageSymbol::Cut,
     };
     Ok(ImageRead { symbol, end })
 }
@@ -190,7 +190,7 @@ pub(crate) fn successor(
     line: &LineTokens,
     at: usize,
     form: Form,
-) -> Result<Vec<Image>, PartRefusal>
+) -> Result<Vec<ImageSymbol>, PartRefusal>
     requires within { at ≤ size line.now }
     ensures read { IsSuccessorRead form (kinds_in line.now) at result }
     ensures spans { IfOk result (λ x. ImagesAreAt (kinds_in line.now) x.items) }

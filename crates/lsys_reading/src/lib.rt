@@ -20,11 +20,11 @@ mod span;
 mod word;
 mod words;
 
-pub use command::{Command, CommandKind};
-pub use images::{Image, ImageModule};
+pub use command::{CommandKind, ReadCommand};
+pub use images::{ImageModule, ImageSymbol};
 pub use parse::parse_command;
-pub use parts::{LabeledRule, LatticeName, Lineage, ListKind, OwnList, Parts};
-pub use patterns::{Pattern, PatternModule};
-pub use refusal::Refusal;
+pub use parts::{CommandParts, LabeledRule, LatticeName, Lineage, ListKind, OwnNames};
+pub use patterns::{PatternModule, PatternSymbol};
+pub use refusal::ReadingRefusal;
 pub use rule::RuleLine;
-pub use span::Span;
+pub use span::ExprSpan;

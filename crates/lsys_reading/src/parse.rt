@@ -7,10 +7,10 @@ ghost use Rattle.lsys_syntax.specs.LineMachine.{Fresh, is_stop, line_step};
 ghost use Rattle.lsys_text.specs.Tokens.{kind_of};
 ghost use Rattle.lsys_reading.specs.Parsing.{column_of, BeginsCommand, IsParsed};
 
-use crate::command::Command;
+use crate::command::ReadCommand;
 use crate::commands::parts;
 use crate::line_tokens::LineTokens;
-use crate::refusal::Refusal;
+use crate::refusal::ReadingRefusal;
 use crate::word::command_word;
 use crate::words::word_of;
 use lsys_text::{Token, TokenKind};
@@ -23,14 +23,18 @@ use std::alloc::Global;
 ///
 /// `Token` and `Deep` have the column of the first token with which no command goes on, or the one after the line's
 /// end. `Memory` is lack of memory, and is told only of a line that begins with the word of a command.
-pub fn parse_command(alloc: Global, tokens: &[Token], line_length: u32) -> Result<Command, Refusal>
+pub fn parse_command(
+    alloc: Global,
+    tokens: &[Token],
+    line_length: u32,
+) -> Result<ReadCommand, ReadingRefusal>
     requires short { line_length ≤ most_line_bytes }
     requires forms { AreTokens (kind_row tokens.now) }
     requires line { All (LiesInLine line_length) tokens.now }
     ensures { IsParsed tokens.now line_length result }
 {
     if !begins_command(tokens) {
-        return Err(Refusal::Token {
+        return Err(ReadingRefusal::Token {
             column: first_column(tokens, line_length),
         });
     }
@@ -39,7 +43,7 @@ pub fn parse_command(alloc: Global, tokens: &[Token], line_length: u32) -> Resul
         bytes: line_length,
     };
     match parts(alloc, &line) {
-        Ok(parts) => Ok(Command { line, parts }),
+        Ok(parts) => Ok(ReadCommand { line, parts }),
         Err(refusal) => Err(line.refusal(refusal)),
     }
 }

@@ -31,7 +31,7 @@ pub enum Lineage {
 
 /// A table's own list of names.
 #[derive(Drop)]
-pub struct OwnList {
+pub struct OwnNames {
     pub kind: ListKind,
     pub table: Word,
     pub names: Vec<Name>,
@@ -47,7 +47,7 @@ pub struct LabeledRule {
 
 /// What a command's tokens are the parts of.
 #[derive(Drop)]
-pub enum Parts {
+pub enum CommandParts {
     /// Sets the axiom, whose string begins after the first token.
     Axiom,
     /// Puts a production.
@@ -79,7 +79,7 @@ pub enum Parts {
     /// Sets the version.
     Version(u64),
     /// Gives a table a list of its own.
-    Own(OwnList),
+    Own(OwnNames),
     /// Takes a table's own list away.
     Common(Word),
     /// Sets how symbols are numbered.

@@ -4,7 +4,7 @@ ghost use Rattle.lsys_reading.specs.Tokens.{kinds_in, size};
 ghost use Rattle.lsys_reading.specs.Patterns.{symbol_read, takes_name, opening_of, branches_behind, IsModuleRead, IsSymbolRead, ArePatternsRead, CountsBranches};
 
 use crate::formals::{FormalsRead, formals};
-use crate::glyph::{Glyph, peek};
+use crate::glyph::{RuleGlyph, peek};
 use crate::line_tokens::LineTokens;
 use crate::refusal::PartRefusal;
 use lsys_text::Name;
@@ -19,7 +19,7 @@ pub struct PatternModule {
 
 /// A symbol of a context.
 #[derive(Drop)]
-pub enum Pattern {
+pub enum PatternSymbol {
     Module(PatternModule),
     Push,
     Pop,
@@ -63,14 +63,14 @@ pub(crate) struct ModuleRead {
 /// A symbol, up to the token after it.
 #[derive(Drop)]
 pub(crate) struct SymbolRead {
-    pub symbol: Pattern,
+    pub symbol: PatternSymbol,
     pub end: usize,
 }
 
 /// Symbols, up to the first token that is none.
 #[derive(Drop)]
 pub(crate) struct PatternsRead {
-    pub symbols: Vec<Pattern>,
+    pub symbols: Vec<PatternSymbol>,
     /// So many branches are open.
     pub branches: usize,
     pub end: usize,
@@ -78,15 +78,17 @@ pub(crate) struct PatternsRead {
 
 impl Standing {
     // The symbol that begins with a token.
-    fn opening(self, glyph: Glyph) -> Option<Opening>
+    fn opening(self, glyph: RuleGlyph) -> Option<Opening>
         ensures { result ≡ opening_of self glyph }
     {
         match glyph {
-            Glyph::Letters(name) | Glyph::Sign(name) if self.takes_name() => {
+            RuleGlyph::Letters(name) | RuleGlyph::Sign(name) if self.takes_name() => {
                 Some(Opening::Name(name))
             }
-            Glyph::Push if self.section == Section::Right => Some(Opening::Push),
-            Glyph::Pop if self.section == Section::Right && self.branches > 0 => Some(Opening::Pop),
+            RuleGlyph::Push if self.section == Section::Right => Some(Opening::Push),
+            RuleGlyph::Pop if self.section == Section::Right && self.branches > 0 => Some(
+                Opening::Pop,
+            ),
             _ => None,
         }
     }
@@ -144,30 +146,30 @@ fn symbol(
         Opening::Name(name) => {
             let ModuleRead { pattern, end } = module(alloc, line, at + 1, name)?;
             Ok(Some(SymbolRead {
-                symbol: Pattern::Module(pattern),
+                symbol: PatternSymbol::Module(pattern),
                 end,
             }))
         }
         Opening::Push => Ok(Some(SymbolRead {
-            symbol: Pattern::Push,
+            symbol: PatternSymbol::Push,
             end: at + 1,
         })),
         Opening::Pop => Ok(Some(SymbolRead {
-            symbol: Pattern::Pop,
+            symbol: PatternSymbol::Pop,
             end: at + 1,
         })),
     }
 }
 
 // How many branches are open after a symbol.
-fn branches_behind(symbol: &Pattern, branches: usize) -> usize
+fn branches_behind(symbol: &PatternSymbol, branches: usize) -> usize
     requires { branches < usize.MAX }
     ensures { result ≡ branches_behind (symbol_read symbol.now) branches }
 {
     match symbol {
-        Pattern::Module(_) => branches,
-        Pattern::Push => branches + 1,
-        Pattern::Pop => branches.saturating_sub(1),
+        PatternSymbol::Module(_) => branches,
+        PatternSymbol::Push => branches + 1,
+        PatternSymbol::Pop => branches.saturating_sub(1),
     }
 }
 

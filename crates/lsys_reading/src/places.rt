@@ -4,7 +4,7 @@ ghost use Rattle.lsys_reading.specs.Tokens.{size, column_in, HasTokenAt, EndsBy}
 ghost use Rattle.lsys_reading.specs.Refusals.{refusal_in};
 
 use crate::line_tokens::LineTokens;
-use crate::refusal::{PartRefusal, Refusal};
+use crate::refusal::{PartRefusal, ReadingRefusal};
 use lsys_text::Token;
 
 impl LineTokens {
@@ -33,17 +33,17 @@ impl LineTokens {
     }
 
     // The same refusal by its column.
-    pub(crate) fn refusal(&self, refusal: PartRefusal) -> Refusal
+    pub(crate) fn refusal(&self, refusal: PartRefusal) -> ReadingRefusal
         ensures { result ≡ refusal_in (column_in self.now) refusal }
     {
         match refusal {
-            PartRefusal::Token { place } => Refusal::Token {
+            PartRefusal::Token { place } => ReadingRefusal::Token {
                 column: self.column(place),
             },
-            PartRefusal::Deep { place } => Refusal::Deep {
+            PartRefusal::Deep { place } => ReadingRefusal::Deep {
                 column: self.column(place),
             },
-            PartRefusal::Memory => Refusal::Memory,
+            PartRefusal::Memory => ReadingRefusal::Memory,
         }
     }
 }

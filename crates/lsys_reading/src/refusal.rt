@@ -45,7 +45,7 @@ impl PartRefusal {
 
 /// Why a line is no command. Columns count bytes from 1.
 #[derive(Clone, Copy, PartialEq, Eq, Debug, Error)]
-pub enum Refusal {
+pub enum ReadingRefusal {
     /// No command begins with the tokens up to the one at this column; where the line ends too early it is the
     /// column after its end.
     #[error("no command goes on at column {column}")]
@@ -58,13 +58,13 @@ pub enum Refusal {
     Memory,
 }
 
-impl From<AllocError> for Refusal {
+impl From<AllocError> for ReadingRefusal {
     ghost use Rattle.std.specs.Prelude.{◌≡◌};
-    ghost use Rattle.lsys_reading.specs.declared.refusal.Refusal.TheVariants.{Memory};
+    ghost use Rattle.lsys_reading.specs.declared.refusal.ReadingRefusal.TheVariants.{Memory};
 
     ghost from_gives = { λ _ e. e ≡ Memory };
 
-    fn from(_: AllocError) -> Refusal {
-        Refusal::Memory
+    fn from(_: AllocError) -> ReadingRefusal {
+        ReadingRefusal::Memory
     }
 }

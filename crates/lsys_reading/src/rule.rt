@@ -5,22 +5,22 @@ ghost use Rattle.lsys_reading.specs.RuleLines.{IsRuleLine, IsRuleRead, IsLineRea
 
 use crate::form::Form;
 use crate::head::head;
-use crate::images::{Image, successor};
+use crate::images::{ImageSymbol, successor};
 use crate::line_tokens::LineTokens;
-use crate::patterns::{Pattern, PatternModule};
+use crate::patterns::{PatternModule, PatternSymbol};
 use crate::refusal::PartRefusal;
-use crate::span::{Span, arrow, condition, weight};
+use crate::span::{ExprSpan, arrow, condition, weight};
 use std::alloc::Global;
 
 /// A rule, as its line's tokens spell it. A context that is not there has no symbols.
 #[derive(Drop)]
 pub struct RuleLine {
-    pub left: Vec<Pattern>,
+    pub left: Vec<PatternSymbol>,
     pub predecessor: PatternModule,
-    pub right: Vec<Pattern>,
-    pub condition: Option<Span>,
-    pub weight: Option<Span>,
-    pub successor: Vec<Image>,
+    pub right: Vec<PatternSymbol>,
+    pub condition: Option<ExprSpan>,
+    pub weight: Option<ExprSpan>,
+    pub successor: Vec<ImageSymbol>,
 }
 
 /// The rule that the tokens from a place on are, up to the line's end: after the colon of a line that begins with

@@ -11,7 +11,7 @@ use lsys_expr::scan_expr;
 
 /// The tokens of an expression: from number `from` up to number `to`, that one left out.
 #[derive(Clone, Copy, PartialEq, Eq, Debug)]
-pub struct Span {
+pub struct ExprSpan {
     pub from: usize,
     pub to: usize,
 }
@@ -19,19 +19,19 @@ pub struct Span {
 /// A condition or a weight, where there is one, up to the token after it.
 #[derive(Clone, Copy)]
 pub(crate) struct OptionRead {
-    pub span: Option<Span>,
+    pub span: Option<ExprSpan>,
     pub end: usize,
 }
 
 // An expression.
-pub(crate) fn expression(line: &LineTokens, at: usize) -> Result<Span, PartRefusal>
+pub(crate) fn expression(line: &LineTokens, at: usize) -> Result<ExprSpan, PartRefusal>
     requires within { at ≤ size line.now }
     ensures read { IsExpressionRead (kinds_in line.now) at result }
     ensures span { IfOk result (λ s. IsSpan (kinds_in line.now) s) }
     ensures place { IfOk result (λ s. (at < s.to) × (s.to ≤ size line.now)) }
 {
     match scan_expr(&line.tokens, at) {
-        Ok(to) => Ok(Span { from: at, to }),
+        Ok(to) => Ok(ExprSpan { from: at, to }),
         Err(refusal) => Err(PartRefusal::from_place(refusal)),
     }
 }

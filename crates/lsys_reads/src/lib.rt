@@ -41,7 +41,7 @@ pub use seats::{Seats, law_of_kept_seats};
 use std::alloc::{AllocError, Global};
 use std::cmp::Reverse;
 use std::marker::Model;
-use table::Table;
+use table::ReaderRows;
 
 /// A reader, and what its answer read.
 #[derive(Clone, Copy, Drop)]
@@ -53,7 +53,7 @@ pub struct Pair {
 /// Which readers read which tags.
 #[derive(Drop)]
 pub struct Reads {
-    by_seen: Table,
+    by_seen: ReaderRows,
     by_reader: Runs,
     pending: Vec<Pair>,
 }
@@ -78,7 +78,7 @@ impl Reads {
         ensures pending { result.pending ≡ [] }
     {
         Reads {
-            by_seen: Table::new(alloc),
+            by_seen: ReaderRows::new(alloc),
             by_reader: Runs::new(alloc),
             pending: Vec::new(alloc),
         }
@@ -249,7 +249,7 @@ fn make_fall(pairs: &mut Vec<Pair>)
 }
 
 /// Takes all pairs of the reader out, and from the rows of readers maybe others in `gone`.
-fn forget_one(by_seen: &mut Table, by_reader: &mut Runs, reader: Tag, gone: &[Tag])
+fn forget_one(by_seen: &mut ReaderRows, by_reader: &mut Runs, reader: Tag, gone: &[Tag])
     requires covers { Covers by_seen.old by_reader.old }
     requires rising { AreRising by_seen.old }
     ensures thins { Thins by_seen.old by_seen.new reader gone.now }
@@ -261,7 +261,7 @@ fn forget_one(by_seen: &mut Table, by_reader: &mut Runs, reader: Tag, gone: &[Ta
 }
 
 /// Takes the reader out of the rows of these tags, and maybe others in `gone`.
-fn sweep_all(by_seen: &mut Table, tags: &[Tag], reader: Tag, gone: &[Tag])
+fn sweep_all(by_seen: &mut ReaderRows, tags: &[Tag], reader: Tag, gone: &[Tag])
     requires { AreRising by_seen.old }
     ensures thins { Thins by_seen.old by_seen.new reader gone.now }
     ensures lost { LackReader tags.now by_seen.new reader }

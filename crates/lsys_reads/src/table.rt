@@ -14,14 +14,14 @@ use std::marker::Model;
 
 /// A row for each tag, and how many cells are kept after all rows for those that are to be placed.
 #[derive(Drop)]
-pub(crate) struct Table {
+pub(crate) struct ReaderRows {
     alloc: Global,
     heads: Vec<Head>,
     cells: Vec<Tag>,
     kept: usize,
 }
 
-impl Model for Table {
+impl Model for ReaderRows {
     ghost use Rattle.std.specs.Prelude.{List, length, vec_capacity};
     ghost use Rattle.lsys_reads.specs.Rows.{Row, rows_code};
     ghost use Rattle.lsys_reads.specs.Layout.{rows_of, AreSoundRows};
@@ -35,12 +35,12 @@ impl Model for Table {
     ghost invariant = { λ t. AreSoundRows t.heads.items (length t.cells.items) t.kept (vec_capacity t.cells) };
 }
 
-impl Table {
+impl ReaderRows {
     /// A table with no rows. It takes no memory.
-    pub(crate) fn new(alloc: Global) -> Table
+    pub(crate) fn new(alloc: Global) -> ReaderRows
         ensures { result ≡ [] }
     {
-        Table {
+        ReaderRows {
             alloc,
             heads: Vec::new(alloc),
             cells: Vec::new(alloc),

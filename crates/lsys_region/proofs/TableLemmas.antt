@@ -5,7 +5,7 @@ use Rattle.std.proofs.lemmas.List.{map-set, map_push, length-map, length-replica
 use Rattle.std.proofs.lemmas.Nat.{pow_pos}
 use Rattle.std.proofs.Math.Pow.{pow_mono}
 use Rattle.std.proofs.lemmas.Option.{same_Some, none-some, slice_get-map, slice_get_within, get_or_from_slice_get}
-use Rattle.lsys_region.specs.declared.packed.Entry.{Entry}
+use Rattle.lsys_region.specs.declared.packed.PackedPart.{PackedPart}
 use Rattle.lsys_region.specs.declared.packed.State.{State}
 use Rattle.lsys_region.specs.declared.packed.State.TheVariants.{Taken, Free}
 use Rattle.lsys_region.specs.Parts.{SizedPart, IsTakenPart, IsPartSpan, AddsPart, TakesPart, FreesPart}
@@ -38,9 +38,9 @@ AreLinked-nil heads empty = record {
 }
 
 -- a table with no parts
-pub IsSound-nil : (entries : List Entry) (heads : List (Option ℕ)) (most : ℕ) → entries ≡ [] → heads ≡ replicate 64 None → IsSoundTable entries heads 0 most
+pub IsSound-nil : (entries : List PackedPart) (heads : List (Option ℕ)) (most : ℕ) → entries ≡ [] → heads ≡ replicate 64 None → IsSoundTable entries heads 0 most
 IsSound-nil entries heads most none empty = record {
-  linked = subst (λ (es : List Entry). AreLinkedByClass (classed es 0) heads) (sym none) (AreLinked-nil heads empty);
+  linked = subst (λ (es : List PackedPart). AreLinkedByClass (classed es 0) heads) (sym none) (AreLinked-nil heads empty);
   few = omega (arith, ap length none);
   below = omega arith;
 }
@@ -51,7 +51,7 @@ head_free entries class i head (m ∷ numbers) at chain =
     let same : m ≡ i = same_Some m i (sym chain.1.at_head ∙ at) in
     (chain.0, (chain.1.free.0, ap (slice_get entries) (sym same) ∙ chain.1.free.1))
 
-module _ {most : ℕ} (entries : List Entry) (heads : List (Option ℕ)) (end class i : ℕ) (d : Option ℕ) (small : class < 64) (sound : IsSoundTable entries heads end most) (is : get_or heads class d ≡ Some i) where
+module _ {most : ℕ} (entries : List PackedPart) (heads : List (Option ℕ)) (end class i : ℕ) (d : Option ℕ) (small : class < 64) (sound : IsSoundTable entries heads end most) (is : get_or heads class d ≡ Some i) where
   -- at whatever default it was read
   at : get_or heads class None ≡ Some i
   at = get_or_default heads class None d (omega (arith, small, sound.linked.many)) ∙ is
@@ -68,24 +68,24 @@ module _ {most : ℕ} (entries : List Entry) (heads : List (Option ℕ)) (end cl
   pub head_within : i < length entries
   head_within = slice_get_within entries i _ read_at_head
 
-  entry_at_head : (entry : Entry) → entry ≡ get_or entries i entry → entry ≡ record { start = at_head.1.0; state = Free at_head.0 }
+  entry_at_head : (entry : PackedPart) → entry ≡ get_or entries i entry → entry ≡ record { start = at_head.1.0; state = Free at_head.0 }
   entry_at_head entry read = read ∙ get_or_from_slice_get entries i _ entry read_at_head
 
   -- so it does not hold a list
-  pub head_state : (len : ℕ) (entry : Entry) → entry ≡ get_or entries i entry → entry.state ≡ Taken len → ⊥
+  pub head_state : (len : ℕ) (entry : PackedPart) → entry ≡ get_or entries i entry → entry.state ≡ Taken len → ⊥
   head_state len entry read taken =
-      let states : Taken len ≡ Free at_head.0 = sym taken ∙ ap (λ (e : Entry). e.state) (entry_at_head entry read) in
+      let states : Taken len ≡ Free at_head.0 = sym taken ∙ ap (λ (e : PackedPart). e.state) (entry_at_head entry read) in
       cc
 
   -- the entry that is read there
-  pub head_entry : (entry : Entry) (next : Option ℕ) → entry ≡ get_or entries i entry → entry.state ≡ Free next → slice_get (classed entries end) i ≡ Some (record { start = entry.start; class = class; state = Free next })
+  pub head_entry : (entry : PackedPart) (next : Option ℕ) → entry ≡ get_or entries i entry → entry.state ≡ Free next → slice_get (classed entries end) i ≡ Some (record { start = entry.start; class = class; state = Free next })
   head_entry entry next read state =
       at_head.1.1
-      ∙ ap (λ (e : Entry). Some (record { start = e.start; class = class; state = e.state })) (sym (entry_at_head entry read))
+      ∙ ap (λ (e : PackedPart). Some (record { start = e.start; class = class; state = e.state })) (sym (entry_at_head entry read))
       ∙ ap (λ (s : State). Some (record { start = entry.start; class = class; state = s })) state
 
   -- the table after the part at the head was taken
-  pub IsSound-take : (entry : Entry) (next : Option ℕ) (len : ℕ) → entry ≡ get_or entries i entry → entry.state ≡ Free next → IsSoundTable (set entries i (record { start = entry.start; state = Taken len })) (set heads class next) end most
+  pub IsSound-take : (entry : PackedPart) (next : Option ℕ) (len : ℕ) → entry ≡ get_or entries i entry → entry.state ≡ Free next → IsSoundTable (set entries i (record { start = entry.start; state = Taken len })) (set heads class next) end most
   IsSound-take entry next len read state =
       let here = head_entry entry next read state in
       let linked = (AreLinked-take (classed entries end) heads class i entry.start class len next small sound.linked at here).1 in
@@ -95,7 +95,7 @@ module _ {most : ℕ} (entries : List Entry) (heads : List (Option ℕ)) (end cl
         below = sound.below;
       }
 
-  pub TakesPart-head : (entry : Entry) (next : Option ℕ) (len : ℕ) → entry ≡ get_or entries i entry → entry.state ≡ Free next → TakesPart (sized_parts entries end) (sized_parts (set entries i (record { start = entry.start; state = Taken len })) end) i class len
+  pub TakesPart-head : (entry : PackedPart) (next : Option ℕ) (len : ℕ) → entry ≡ get_or entries i entry → entry.state ≡ Free next → TakesPart (sized_parts entries end) (sized_parts (set entries i (record { start = entry.start; state = Taken len })) end) i class len
   TakesPart-head entry next len read state =
       let here = head_entry entry next read state in
       record {
@@ -104,12 +104,12 @@ module _ {most : ℕ} (entries : List Entry) (heads : List (Option ℕ)) (end cl
         changed = ap (map part_of) (classed-set entries end i (record { start = entry.start; state = Taken len }) _ here refl) ∙ map-set part_of (classed entries end) i _;
       }
 
-told_or_none : {most : ℕ} (entries : List Entry) (heads : List (Option ℕ)) (end class : ℕ) (d o : Option ℕ) → class < 64 → IsSoundTable entries heads end most → get_or heads class d ≡ o → IfSome o (λ number. number < most)
+told_or_none : {most : ℕ} (entries : List PackedPart) (heads : List (Option ℕ)) (end class : ℕ) (d o : Option ℕ) → class < 64 → IsSoundTable entries heads end most → get_or heads class d ≡ o → IfSome o (λ number. number < most)
 told_or_none entries heads end class d None small sound is = tt
 told_or_none entries heads end class d (Some i) small sound is = omega (arith, head_within entries heads end class i d small sound is, sound.few, sound.below)
 
 -- the entries can tell the number of the first free part of a class
-pub head_told : {most : ℕ} (entries : List Entry) (heads : List (Option ℕ)) (end class : ℕ) (d : Option ℕ) → class < 64 → IsSoundTable entries heads end most → IfSome (get_or heads class d) (λ number. number < most)
+pub head_told : {most : ℕ} (entries : List PackedPart) (heads : List (Option ℕ)) (end class : ℕ) (d : Option ℕ) → class < 64 → IsSoundTable entries heads end most → IfSome (get_or heads class d) (λ number. number < most)
 head_told entries heads end class d small sound = told_or_none entries heads end class d (get_or heads class d) small sound refl
 
 taken_state : (state : State) (len : ℕ) → filled_of state ≡ Some len → state ≡ Taken len
@@ -117,39 +117,39 @@ taken_state (Taken own) len same = ap Taken (same_Some own len same)
 taken_state (Free next) len same = absurd (none-some len same)
 
 -- the entry of a part that holds a list of this length
-pub record IsTakenEntry (entries : List Entry) (end n : ℕ) (entry : Entry) (len : ℕ) : Type 0 where
+pub record IsTakenEntry (entries : List PackedPart) (end n : ℕ) (entry : PackedPart) (len : ℕ) : Type 0 where
   pub class : ℕ
   pub here : slice_get (classed entries end) n ≡ Some (record { start = entry.start; class = class; state = Taken len })
 
-module _ (entries : List Entry) (end n : ℕ) (taken : IsTakenPart (sized_parts entries end) n) where
+module _ (entries : List PackedPart) (end n : ℕ) (taken : IsTakenPart (sized_parts entries end) n) where
   found_taken : (found : Classed) × (slice_get (classed entries end) n ≡ Some found) × (part_of found ≡ record { start = taken.start; class = taken.class; filled = Some taken.len })
   found_taken = from_option_map part_of (slice_get (classed entries end) n) _ (sym (slice_get-map part_of (classed entries end) n) ∙ taken.here)
 
   pub taken_below : n < length entries
   taken_below = slice_get_within entries n _ (entry_of-classed entries end n found_taken.0 found_taken.1)
 
-  entry_taken : (entry : Entry) → entry ≡ get_or entries n entry → entry ≡ record { start = found_taken.0.start; state = found_taken.0.state }
+  entry_taken : (entry : PackedPart) → entry ≡ get_or entries n entry → entry ≡ record { start = found_taken.0.start; state = found_taken.0.state }
   entry_taken entry read = read ∙ get_or_from_slice_get entries n _ entry (entry_of-classed entries end n found_taken.0 found_taken.1)
 
   -- so it is not free
-  pub not_free : (entry : Entry) (next : Option ℕ) → entry ≡ get_or entries n entry → entry.state ≡ Free next → ⊥
+  pub not_free : (entry : PackedPart) (next : Option ℕ) → entry ≡ get_or entries n entry → entry.state ≡ Free next → ⊥
   not_free entry next read free =
       let held : found_taken.0.state ≡ Taken taken.len = taken_state found_taken.0.state taken.len (ap (λ (p : SizedPart). p.filled) found_taken.2) in
-      let states : Taken taken.len ≡ Free next = sym held ∙ sym (ap (λ (e : Entry). e.state) (entry_taken entry read)) ∙ free in
+      let states : Taken taken.len ≡ Free next = sym held ∙ sym (ap (λ (e : PackedPart). e.state) (entry_taken entry read)) ∙ free in
       cc
 
-  pub taken_entry : (entry : Entry) (len : ℕ) → entry ≡ get_or entries n entry → entry.state ≡ Taken len → IsTakenEntry entries end n entry len
+  pub taken_entry : (entry : PackedPart) (len : ℕ) → entry ≡ get_or entries n entry → entry.state ≡ Taken len → IsTakenEntry entries end n entry len
   taken_entry entry len read held =
       let found = found_taken.0 in
       record {
         class = found.class;
         here = found_taken.1
-            ∙ ap (λ (e : Entry). Some (record { start = e.start; class = found.class; state = e.state })) (sym (entry_taken entry read))
+            ∙ ap (λ (e : PackedPart). Some (record { start = e.start; class = found.class; state = e.state })) (sym (entry_taken entry read))
             ∙ ap (λ (s : State). Some (record { start = entry.start; class = found.class; state = s })) held;
       }
 
 -- the entry of a part whose list is known
-pub span_entry : (entries : List Entry) (end n start len : ℕ) (entry : Entry) → IsPartSpan (sized_parts entries end) n start len → entry ≡ get_or entries n entry → IsTakenEntry entries end n entry len
+pub span_entry : (entries : List PackedPart) (end n start len : ℕ) (entry : PackedPart) → IsPartSpan (sized_parts entries end) n start len → entry ≡ get_or entries n entry → IsTakenEntry entries end n entry len
 span_entry entries end n start len entry span read =
     let found = from_option_map part_of (slice_get (classed entries end) n) _ (sym (slice_get-map part_of (classed entries end) n) ∙ span.here) in
     let same : entry ≡ record { start = found.0.start; state = found.0.state } = read ∙ get_or_from_slice_get entries n _ entry (entry_of-classed entries end n found.0 found.1) in
@@ -158,18 +158,18 @@ span_entry entries end n start len entry span read =
       class = found.0.class;
       here = found.1
           ∙ ap (λ (s : State). Some (record { start = found.0.start; class = found.0.class; state = s })) held
-          ∙ ap (λ (e : Entry). Some (record { start = e.start; class = found.0.class; state = Taken len })) (sym same);
+          ∙ ap (λ (e : PackedPart). Some (record { start = e.start; class = found.0.class; state = Taken len })) (sym same);
     }
 
 -- the entry of such a part
-pub span_found : (entries : List Entry) (end n start len : ℕ) → IsPartSpan (sized_parts entries end) n start len → (entry : Entry) × (entry ≡ get_or entries n entry)
+pub span_found : (entries : List PackedPart) (end n start len : ℕ) → IsPartSpan (sized_parts entries end) n start len → (entry : PackedPart) × (entry ≡ get_or entries n entry)
 span_found entries end n start len span =
     let found = from_option_map part_of (slice_get (classed entries end) n) _ (sym (slice_get-map part_of (classed entries end) n) ∙ span.here) in
-    let entry : Entry = record { start = found.0.start; state = found.0.state } in
+    let entry : PackedPart = record { start = found.0.start; state = found.0.state } in
     (entry, sym (get_or_from_slice_get entries n entry entry (entry_of-classed entries end n found.0 found.1)))
 
 -- a list that has one of the classes is no longer than this
-pub part_length : {most : ℕ} (entries : List Entry) (heads : List (Option ℕ)) (end n start len : ℕ) → IsPartSpan (sized_parts entries end) n start len → HaveRooms (sized_parts entries end) → IsSoundTable entries heads end most → len ≤ 2 ^ 63
+pub part_length : {most : ℕ} (entries : List PackedPart) (heads : List (Option ℕ)) (end n start len : ℕ) → IsPartSpan (sized_parts entries end) n start len → HaveRooms (sized_parts entries end) → IsSoundTable entries heads end most → len ≤ 2 ^ 63
 part_length entries heads end n start len span rooms sound =
     let found = from_option_map part_of (slice_get (classed entries end) n) _ (sym (slice_get-map part_of (classed entries end) n) ∙ span.here) in
     let same : found.0.class ≡ span.class = ap (λ (p : SizedPart). p.class) found.2 in
@@ -182,7 +182,7 @@ pub most_bounded : (rows : Rows) → most_of rows ≤ all_places
 most_bounded (Small small) = omega arith
 most_bounded (Large large) = omega arith
 
-module _ (entries : List Entry) (end n : ℕ) (entry : Entry) (len : ℕ) (held : IsTakenEntry entries end n entry len) where
+module _ (entries : List PackedPart) (end n : ℕ) (entry : PackedPart) (len : ℕ) (held : IsTakenEntry entries end n entry len) where
   part_here : slice_get (sized_parts entries end) n ≡ Some (record { start = entry.start; class = held.class; filled = Some len })
   part_here = slice_get-map part_of (classed entries end) n ∙ ap (option_map part_of) held.here
 
@@ -198,7 +198,7 @@ module _ (entries : List Entry) (end n : ℕ) (entry : Entry) (len : ℕ) (held 
   -- the table after the part was freed
   pub IsSound-release : {most : ℕ} (heads : List (Option ℕ)) (class : ℕ) (d : Option ℕ) → class ≡ held.class → IsSoundTable entries heads end most → IsSoundTable (set entries n (record { start = entry.start; state = Free (get_or heads class d) })) (set heads class (Some n)) end most
   IsSound-release {most} heads class d same sound =
-      let freed : ℕ → Entry = λ k. record { start = entry.start; state = Free (get_or heads k d) } in
+      let freed : ℕ → PackedPart = λ k. record { start = entry.start; state = Free (get_or heads k d) } in
       let linked = AreLinked-release (classed entries end) heads n entry.start held.class len d sound.linked held.here in
       subst (λ k. IsSoundTable (set entries n (freed k)) (set heads k (Some n)) end most) (sym same) (record {
         linked = subst (λ es. AreLinkedByClass es (set heads held.class (Some n))) (sym (classed-set entries end n (freed held.class) _ held.here refl)) linked;
@@ -216,10 +216,10 @@ module _ (entries : List Entry) (end n : ℕ) (entry : Entry) (len : ℕ) (held 
   }
 
 -- as many parts as entries
-pub length-parts_of : (entries : List Entry) (end : ℕ) → length (sized_parts entries end) ≡ length entries
+pub length-parts_of : (entries : List PackedPart) (end : ℕ) → length (sized_parts entries end) ≡ length entries
 length-parts_of entries end = length-map (classed entries end) part_of ∙ length-classed entries end
 
-module _ (entries : List Entry) (end class room len : ℕ) (power : room ≡ 2 ^ class) where
+module _ (entries : List PackedPart) (end class room len : ℕ) (power : room ≡ 2 ^ class) where
   classed_added : classed (entries ++ record { start = end; state = Taken len } ∷ []) (end + room) ≡ classed entries end ++ record { start = end; class = class; state = Taken len } ∷ []
   classed_added =
       ap (λ r. classed (entries ++ record { start = end; state = Taken len } ∷ []) (end + r)) power ∙ classed-push entries end class (Taken len)

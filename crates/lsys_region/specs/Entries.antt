@@ -1,6 +1,6 @@
 -- What the entries of the table say of the parts, and how they link the free parts of each class.
 use Rattle.std.specs.Prelude.{◌≡◌, ◌<◌, ◌≤◌, ◌-◌, ℕ, List, [], ◌∷◌, map, length, Option, Some, None, slice_get, slice_index_or, ◌⊎◌}
-use Rattle.lsys_region.specs.declared.packed.Entry.{Entry}
+use Rattle.lsys_region.specs.declared.packed.PackedPart.{PackedPart}
 use Rattle.lsys_region.specs.declared.packed.State.{State}
 use Rattle.lsys_region.specs.declared.packed.State.TheVariants.{Taken, Free}
 use Rattle.lsys_region.specs.Parts.{SizedPart}
@@ -13,7 +13,7 @@ pub record Classed : Type 0 where
   pub state : State
 
 -- where the first of these parts begins; with no part, their end
-abbrev pub begin_of : List Entry → ℕ → ℕ
+abbrev pub begin_of : List PackedPart → ℕ → ℕ
 begin_of [] end = end
 begin_of (entry ∷ entries) end = entry.start
 
@@ -22,7 +22,7 @@ unfoldable pub exponent_of : ℕ → ℕ
 exponent_of room = exponent_from room 0 room
 
 -- the entries with their classes: each part ends where the next one begins, and the last one at the end
-abbrev pub classed : List Entry → ℕ → List Classed
+abbrev pub classed : List PackedPart → ℕ → List Classed
 classed [] end = []
 classed (entry ∷ entries) end =
     record { start = entry.start; class = exponent_of (begin_of entries end - entry.start); state = entry.state } ∷ classed entries end
@@ -35,7 +35,7 @@ abbrev pub part_of : Classed → SizedPart
 part_of entry = record { start = entry.start; class = entry.class; filled = filled_of entry.state }
 
 -- the parts of these entries
-abbrev pub sized_parts : List Entry → ℕ → List SizedPart
+abbrev pub sized_parts : List PackedPart → ℕ → List SizedPart
 sized_parts entries end = map part_of (classed entries end)
 
 -- the entry with this number is free, of this class, and names the next free one
@@ -76,7 +76,7 @@ pub record AreLinkedByClass (entries : List Classed) (heads : List (Option ℕ))
   pub linked : (class : ℕ) → class < 64 → IsLinked entries class (slice_index_or heads class None)
 
 -- the free parts of each class are linked, and there are no more parts than places, of which so many can be told
-pub record IsSoundTable (entries : List Entry) (heads : List (Option ℕ)) (end most : ℕ) : Type 0 where
+pub record IsSoundTable (entries : List PackedPart) (heads : List (Option ℕ)) (end most : ℕ) : Type 0 where
   pub linked : AreLinkedByClass (classed entries end) heads
   pub few : length entries ≤ end
   pub below : end ≤ most

@@ -25,7 +25,7 @@ use packed::Link;
 use std::alloc::{AllocError, Global};
 use std::marker::Model;
 use std::mem::size_of;
-use table::Table;
+use table::PartTable;
 
 /// The name of a list that stands in a region, made by [`Region::place`].
 ///
@@ -49,7 +49,7 @@ impl Model for Run {
 #[derive(Drop)]
 pub struct Region<T: Copy> {
     cells: Vec<T>,
-    table: Table,
+    table: PartTable,
     spare: usize,
 }
 
@@ -79,7 +79,7 @@ impl<T: Copy> Region<T> {
     {
         Region {
             cells: Vec::new(alloc),
-            table: Table::new(alloc),
+            table: PartTable::new(alloc),
             spare: 0,
         }
     }

@@ -133,7 +133,7 @@ impl PackedState {
 
 /// A part of the vector: where it begins, and its state. It ends where the next part begins.
 #[derive(Clone, Copy, Drop)]
-pub(crate) struct Entry {
+pub(crate) struct PackedPart {
     pub(crate) start: usize,
     pub(crate) state: State,
 }
@@ -148,9 +148,9 @@ pub(crate) struct SmallEntry {
 const _: () = prove!(size_of::<SmallEntry>() == 8);
 
 impl Model for SmallEntry {
-    ghost use Rattle.lsys_region.specs.declared.packed.Entry.{Entry};
+    ghost use Rattle.lsys_region.specs.declared.packed.PackedPart.{PackedPart};
 
-    ghost Value = { Entry };
+    ghost Value = { PackedPart };
 
     ghost view = { λ e. record { start = e.start; state = e.state } };
 
@@ -171,10 +171,10 @@ impl SmallEntry {
     }
 
     /// The entry.
-    pub(crate) fn get(self) -> Entry
+    pub(crate) fn get(self) -> PackedPart
         ensures { result ≡ self }
     {
-        Entry {
+        PackedPart {
             start: self.start as usize,
             state: self.state.get(),
         }
@@ -201,9 +201,9 @@ pub(crate) struct LargeEntry {
 }
 
 impl Model for LargeEntry {
-    ghost use Rattle.lsys_region.specs.declared.packed.Entry.{Entry};
+    ghost use Rattle.lsys_region.specs.declared.packed.PackedPart.{PackedPart};
 
-    ghost Value = { Entry };
+    ghost Value = { PackedPart };
 
     ghost use Rattle.lsys_region.specs.LargeEntries.{large_entry, IsLargeEntry, as_large, large_kept};
 
@@ -236,10 +236,10 @@ impl LargeEntry {
     }
 
     /// The entry.
-    pub(crate) fn get(self) -> Entry
+    pub(crate) fn get(self) -> PackedPart
         ensures { result ≡ self }
     {
-        Entry {
+        PackedPart {
             start: self.start,
             state: if self.is_free {
                 State::Free(Link::by_bits(self.bits))

@@ -4,7 +4,7 @@ ghost use Rattle.lsys_region.specs.Layout.{all_places};
 ghost use Rattle.lsys_region.specs.States.{HasNumbersWithin};
 ghost use Rattle.lsys_region.specs.Rows.{entries_of_rows, capacity_of, most_of, SetsState};
 
-use crate::packed::{Entry, LargeEntry, SMALL_PLACES, SmallEntry, State};
+use crate::packed::{LargeEntry, PackedPart, SMALL_PLACES, SmallEntry, State};
 use std::alloc::{AllocError, Global};
 
 /// Entries by the numbers of their parts.
@@ -33,7 +33,7 @@ impl Rows {
     }
 
     /// The entry with this number.
-    pub(crate) fn get(&self, number: usize) -> Entry
+    pub(crate) fn get(&self, number: usize) -> PackedPart
         requires { number < length (entries_of_rows self.now) }
         ensures { result ≡ slice_index_or (entries_of_rows self.now) number result }
     {
@@ -58,7 +58,7 @@ impl Rows {
     }
 
     /// Adds an entry, for which there is room. It takes no memory.
-    pub(crate) fn push(&mut self, entry: Entry)
+    pub(crate) fn push(&mut self, entry: PackedPart)
         requires room { length (entries_of_rows self.old) < capacity_of self.old }
         requires start { entry.start ≤ most_of self.old }
         requires state { HasNumbersWithin (most_of self.old) entry.state }

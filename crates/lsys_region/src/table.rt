@@ -4,27 +4,27 @@ ghost use Rattle.lsys_region.specs.Parts.{AllTaken, IsTakenPart, IsPartSpan, Add
 ghost use Rattle.lsys_region.specs.Layout.{all_places, HaveRooms};
 
 use crate::class::{CLASSES, Class, class_of};
-use crate::packed::{Entry, Link, State};
+use crate::packed::{Link, PackedPart, State};
 use crate::rows::Rows;
 use std::alloc::{AllocError, Global};
 use std::marker::Model;
 
 /// Where a list stands in the vector.
 #[derive(Clone, Copy)]
-pub(crate) struct Span {
+pub(crate) struct ListSpan {
     pub(crate) start: usize,
     pub(crate) len: usize,
 }
 
 /// The parts by their numbers, the first free part of each size class, and where the last part ends.
 #[derive(Drop)]
-pub(crate) struct Table {
+pub(crate) struct PartTable {
     rows: Rows,
     heads: [Link; CLASSES],
     end: usize,
 }
 
-impl Model for Table {
+impl Model for PartTable {
     ghost use Rattle.lsys_region.specs.Parts.{Parts};
 
     ghost Value = { Parts };
@@ -42,14 +42,14 @@ impl Model for Table {
     ghost invariant = { λ a. IsSoundTable (entries_of_rows a.rows) a.heads a.end (most_of a.rows) };
 }
 
-impl Table {
+impl PartTable {
     /// A table with no parts.
-    pub(crate) fn new(alloc: Global) -> Table
+    pub(crate) fn new(alloc: Global) -> PartTable
         ensures parts { result.parts ≡ [] }
         ensures end { result.end ≡ 0 }
     {
         let none = Link::none();
-        Table {
+        PartTable {
             rows: Rows::new(alloc),
             heads: [none; CLASSES],
             end: 0,
@@ -108,7 +108,7 @@ impl Table {
         ensures most { self.new.most ≡ self.old.most }
     {
         let number = self.rows.len();
-        self.rows.push(Entry {
+        self.rows.push(PackedPart {
             start: self.end,
             state: State::Taken(len),
         });
@@ -133,13 +133,13 @@ impl Table {
     }
 
     /// Where the list stands that this part holds.
-    pub(crate) fn span(&self, number: usize) -> Span
+    pub(crate) fn span(&self, number: usize) -> ListSpan
         requires { IsTakenPart self.now.parts number }
         ensures { IsPartSpan self.now.parts number result.start result.len }
     {
         let entry = self.rows.get(number);
         match entry.state {
-            State::Taken(len) => Span {
+            State::Taken(len) => ListSpan {
                 start: entry.start,
                 len,
             },

@@ -18,8 +18,8 @@ use Rattle.lsys_laws.proofs.KeptWhole.{changed_kept}
 use Rattle.lsys_text.specs.Tokens.{kind_row}
 use Rattle.lsys_text.specs.declared.token_kind.Token.{Token}
 use Rattle.lsys_reading.specs.declared.parts.LabeledRule.{LabeledRule}
-use Rattle.lsys_reading.specs.declared.parts.Parts.{Parts}
-use Rattle.lsys_reading.specs.declared.parts.Parts.TheVariants.{Production, Homomorphism}
+use Rattle.lsys_reading.specs.declared.parts.CommandParts.{CommandParts}
+use Rattle.lsys_reading.specs.declared.parts.CommandParts.TheVariants.{Production, Homomorphism}
 use Rattle.lsys_reading.specs.Commands.{parts_command}
 use Rattle.lsys_reading.specs.Parted.{command_of, IsParted}
 use Rattle.lsys_reading.specs.RuleLines.{rule_at}
@@ -27,11 +27,11 @@ use Rattle.lsys_bodies.specs.Building.{CanBuild}
 use Rattle.lsys_bodies.proofs.Named.{can-build}
 
 -- the command that tokens spell is that of their parts
-pub parted_command : (ts : List Token) (p q : Parts) → IsParted (kind_row ts) p → p ≡ q → command_of ts ≡ parts_command (kind_row ts) q
+pub parted_command : (ts : List Token) (p q : CommandParts) → IsParted (kind_row ts) p → p ≡ q → command_of ts ≡ parts_command (kind_row ts) q
 parted_command ts p q h e = ap (λ v. unwrap_or (command_in v) spec.quit) h.spelled ∙ ap (parts_command (kind_row ts)) e
 
 -- it is one of the language
-pub is_command : (ts : List Token) (p : Parts) → AreTokens (kind_row ts) → IsParted (kind_row ts) p → IsCommand (parts_command (kind_row ts) p) × (nesting (parts_command (kind_row ts) p) ≤ nesting_bound)
+pub is_command : (ts : List Token) (p : CommandParts) → AreTokens (kind_row ts) → IsParted (kind_row ts) p → IsCommand (parts_command (kind_row ts) p) × (nesting (parts_command (kind_row ts) p) ≤ nesting_bound)
 is_command ts p g h = let s = sentence-spelled (kind_row ts) (parts_command (kind_row ts) p) g h.spelled in (s.1, s.2)
 
 -- a rule that nothing refuses can be built
@@ -70,7 +70,7 @@ hom_rule_builds s l r is h =
     (refused_if (nat_lt most_rules (length s.rules + length (put_hom (record { label = l; rule = r }) s.homomorphisms))) many 1) (refused_at (rule_many 3 r) many) h in
     can-build 3 3 r is (at_none (rule_unknown 3 r) unknown_name calm.0) (at_none (rule_many 3 r) many calm.1)
 
-module _ (s : System) (ts : List Token) (p : Parts) (line : LabeledRule) (forms : AreTokens (kind_row ts)) (parted : IsParted (kind_row ts) p) (accepted : refusal s (command_of ts) ≡ None) where
+module _ (s : System) (ts : List Token) (p : CommandParts) (line : LabeledRule) (forms : AreTokens (kind_row ts)) (parted : IsParted (kind_row ts) p) (accepted : refusal s (command_of ts) ≡ None) where
   pub production_builds : p ≡ Production line → CanBuild (rule_at (kind_row ts) line.rule)
   production_builds is =
       let own : IsCommand (parts_command (kind_row ts) (Production line)) = subst (λ q. IsCommand (parts_command (kind_row ts) q)) is (is_command ts p forms parted).0 in
@@ -82,7 +82,7 @@ module _ (s : System) (ts : List Token) (p : Parts) (line : LabeledRule) (forms 
       hom_rule_builds s line.label (rule_at (kind_row ts) line.rule) own.1 (ap (refusal s) (sym (parted_command ts p (Homomorphism line) parted is)) ∙ accepted)
 
 -- what it makes of a system is well formed and well spelled
-pub well_changed : (s : System) (ts : List Token) (p : Parts) → AreTokens (kind_row ts) → IsParted (kind_row ts) p → IsWell s → refusal s (command_of ts) ≡ None → IsWell (changed s (command_of ts))
+pub well_changed : (s : System) (ts : List Token) (p : CommandParts) → AreTokens (kind_row ts) → IsParted (kind_row ts) p → IsWell s → refusal s (command_of ts) ≡ None → IsWell (changed s (command_of ts))
 well_changed s ts p forms parted well accepted =
     let told = parted_command ts p p parted refl in
     let own = is_command ts p forms parted in

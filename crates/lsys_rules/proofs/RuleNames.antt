@@ -15,8 +15,8 @@ use Rattle.lsys_text.specs.Tokens.{kind_of, kind_row, name_of}
 use Rattle.lsys_text.specs.declared.token_kind.Token.{Token}
 use Rattle.lsys_reading.specs.declared.rule.RuleLine.{RuleLine}
 use Rattle.lsys_reading.specs.declared.parts.LabeledRule.{LabeledRule}
-use Rattle.lsys_reading.specs.declared.parts.Parts.{Parts}
-use Rattle.lsys_reading.specs.declared.parts.Parts.TheVariants.{Axiom, Production, Drop, Ignore, Schedule, Seed, Depth, Lattice, Homomorphism, String, Segments, Svg, Show, Quit, Version, Own, Common, Lineage}
+use Rattle.lsys_reading.specs.declared.parts.CommandParts.{CommandParts}
+use Rattle.lsys_reading.specs.declared.parts.CommandParts.TheVariants.{Axiom, Production, Drop, Ignore, Schedule, Seed, Depth, Lattice, Homomorphism, String, Segments, Svg, Show, Quit, Version, Own, Common, Lineage}
 use Rattle.lsys_reading.specs.RuleLines.{rule_at}
 use Rattle.lsys_reading.specs.Spans.{option_at}
 use Rattle.lsys_reading.specs.Images.{images_at}
@@ -67,10 +67,10 @@ names_moved from ks r m x e h = record {
 }
 
 -- the command that has these parts is one
-same_command : (ks : List Kind) (p q : Parts) → IsParted ks p → IsParted ks q → parts_command ks p ≡ parts_command ks q
+same_command : (ks : List Kind) (p q : CommandParts) → IsParted ks p → IsParted ks q → parts_command ks p ≡ parts_command ks q
 same_command ks p q h k = let e : sentence (parts_command ks p) ≡ sentence (parts_command ks q) = sym h.spelled ∙ k.spelled in cc
 
-from_production : (ks : List Kind) (l : LabeledRule) (x : FormalNames) (q : Parts) → parts_command ks (Production l) ≡ parts_command ks q → AreFormalNames (label_place l.table + 2) l.rule x → HasFormals q (Some x)
+from_production : (ks : List Kind) (l : LabeledRule) (x : FormalNames) (q : CommandParts) → parts_command ks (Production l) ≡ parts_command ks q → AreFormalNames (label_place l.table + 2) l.rule x → HasFormals q (Some x)
 from_production ks l x (Production m) e h =
     let rules : rule_at ks l.rule ≡ rule_at ks m.rule = cc in
     let tables : l.table ≡ m.table = cc in
@@ -93,7 +93,7 @@ from_production ks l x (Own w) e h = tt
 from_production ks l x (Common w) e h = tt
 from_production ks l x (Lineage w) e h = tt
 
-from_homomorphism : (ks : List Kind) (l : LabeledRule) (x : FormalNames) (q : Parts) → parts_command ks (Homomorphism l) ≡ parts_command ks q → AreFormalNames 3 l.rule x → HasFormals q (Some x)
+from_homomorphism : (ks : List Kind) (l : LabeledRule) (x : FormalNames) (q : CommandParts) → parts_command ks (Homomorphism l) ≡ parts_command ks q → AreFormalNames 3 l.rule x → HasFormals q (Some x)
 from_homomorphism ks l x (Homomorphism m) e h = let rules : rule_at ks l.rule ≡ rule_at ks m.rule = cc in names_moved 3 ks l.rule m.rule x rules h
 from_homomorphism ks l x (Production m) e h = cc
 from_homomorphism ks l x Axiom e h = tt
@@ -113,12 +113,12 @@ from_homomorphism ks l x (Own w) e h = tt
 from_homomorphism ks l x (Common w) e h = tt
 from_homomorphism ks l x (Lineage w) e h = tt
 
-pub production_names : (ks : List Kind) (p : Parts) (l : LabeledRule) (x : FormalNames) → p ≡ Production l → IsParted ks p → AreFormalNames (label_place l.table + 2) l.rule x
-    → (q : Parts) → IsParted ks q → HasFormals q (Some x)
+pub production_names : (ks : List Kind) (p : CommandParts) (l : LabeledRule) (x : FormalNames) → p ≡ Production l → IsParted ks p → AreFormalNames (label_place l.table + 2) l.rule x
+    → (q : CommandParts) → IsParted ks q → HasFormals q (Some x)
 production_names ks p l x is h names q k = from_production ks l x q (ap (parts_command ks) (sym is) ∙ same_command ks p q h k) names
 
-pub homomorphism_names : (ks : List Kind) (p : Parts) (l : LabeledRule) (x : FormalNames) → p ≡ Homomorphism l → IsParted ks p → AreFormalNames 3 l.rule x
-    → (q : Parts) → IsParted ks q → HasFormals q (Some x)
+pub homomorphism_names : (ks : List Kind) (p : CommandParts) (l : LabeledRule) (x : FormalNames) → p ≡ Homomorphism l → IsParted ks p → AreFormalNames 3 l.rule x
+    → (q : CommandParts) → IsParted ks q → HasFormals q (Some x)
 homomorphism_names ks p l x is h names q k = from_homomorphism ks l x q (ap (parts_command ks) (sym is) ∙ same_command ks p q h k) names
 
 -- how many tokens a rule's line has
@@ -133,13 +133,13 @@ homomorphism_count l r = omega arith
 line_count : (ts : List Token) (c : spec.Command) → AreTokens (kind_row ts) → verdict (kind_row ts) ≡ sentence c → length (kinds_in (spec.command_pieces c)) ≡ length ts
 line_count ts c g e = ap length (sentence-spelled (kind_row ts) c g e).0 ∙ length-map ts (λ t. kind_of t.kind)
 
-pub production_tokens : (ts : List Token) (p : Parts) (l : LabeledRule) → AreTokens (kind_row ts) → p ≡ Production l → IsParted (kind_row ts) p
+pub production_tokens : (ts : List Token) (p : CommandParts) (l : LabeledRule) → AreTokens (kind_row ts) → p ≡ Production l → IsParted (kind_row ts) p
     → label_place l.table + 2 + length (kinds_in (rule_pieces (rule_at (kind_row ts) l.rule))) ≡ length ts
 production_tokens ts p l g is h =
     sym (production_count l.table l.label (rule_at (kind_row ts) l.rule))
     ∙ line_count ts (parts_command (kind_row ts) (Production l)) g (h.spelled ∙ ap (λ q. sentence (parts_command (kind_row ts) q)) is)
 
-pub homomorphism_tokens : (ts : List Token) (p : Parts) (l : LabeledRule) → AreTokens (kind_row ts) → p ≡ Homomorphism l → IsParted (kind_row ts) p
+pub homomorphism_tokens : (ts : List Token) (p : CommandParts) (l : LabeledRule) → AreTokens (kind_row ts) → p ≡ Homomorphism l → IsParted (kind_row ts) p
     → 3 + length (kinds_in (rule_pieces (rule_at (kind_row ts) l.rule))) ≡ length ts
 homomorphism_tokens ts p l g is h =
     sym (homomorphism_count l.label (rule_at (kind_row ts) l.rule))

@@ -5,13 +5,13 @@ use Rattle.lsys_syntax.specs.Commands.{Command}
 use Rattle.lsys_spec.specs.Edits.{changed}
 use Rattle.lsys_spec.specs.Meaning.{ignores}
 use Rattle.lsys_module.specs.Views.{module_name}
-use Rattle.lsys_reading.specs.declared.parts.Parts.{Parts}
-use Rattle.lsys_reading.specs.declared.parts.Parts.TheVariants.{Axiom, Production, Drop, Ignore, Schedule, Homomorphism, Own, Common}
+use Rattle.lsys_reading.specs.declared.parts.CommandParts.{CommandParts}
+use Rattle.lsys_reading.specs.declared.parts.CommandParts.TheVariants.{Axiom, Production, Drop, Ignore, Schedule, Homomorphism, Own, Common}
 use Rattle.lsys_rules.specs.Systems.{system_of}
 use Rattle.lsys_rules.specs.declared.parts.SystemParts.{SystemParts}
 
 -- an edit of a number, of the lattice or of the numbering, or a query
-abbrev pub IsPlainEdit : Parts → Type 0
+abbrev pub IsPlainEdit : CommandParts → Type 0
 IsPlainEdit Axiom = ⊥
 IsPlainEdit (Production l) = ⊥
 IsPlainEdit (Drop l) = ⊥

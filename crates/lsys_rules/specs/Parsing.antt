@@ -5,14 +5,14 @@ use Rattle.lsys_text.specs.Tokens.{kind_row}
 use Rattle.lsys_text.specs.declared.token_kind.Token.{Token}
 use Rattle.lsys_reading.specs.Parted.{command_of}
 use Rattle.lsys_reading.specs.Parsing.{column_of, BeginsCommand}
-use Rattle.lsys_reading.specs.declared.refusal.Refusal as reading
-use Rattle.lsys_reading.specs.declared.refusal.Refusal.TheVariants as parsed
+use Rattle.lsys_reading.specs.declared.refusal.ReadingRefusal as reading
+use Rattle.lsys_reading.specs.declared.refusal.ReadingRefusal.TheVariants as parsed
 use Rattle.lsys_rules.specs.Lines.{CommandLine}
 use Rattle.lsys_rules.specs.declared.refusal.Refusal.{Refusal}
 use Rattle.lsys_rules.specs.declared.refusal.Refusal.TheVariants as refusals
 
 -- why a line is no command
-abbrev pub of_reading : reading.Refusal → Refusal
+abbrev pub of_reading : reading.ReadingRefusal → Refusal
 of_reading (parsed.Token column) = refusals.Token column
 of_reading (parsed.Deep column) = refusals.Deep column
 of_reading parsed.Memory = refusals.Memory

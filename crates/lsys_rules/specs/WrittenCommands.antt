@@ -11,7 +11,7 @@ use Rattle.lsys_module.specs.Views.{module_name}
 use Rattle.lsys_reading.specs.Commands.{axiom_reading, list_kind_of, string_in}
 use Rattle.lsys_reading.specs.RuleLines.{rule_at}
 use Rattle.lsys_reading.specs.declared.parts.LabeledRule.{LabeledRule}
-use Rattle.lsys_reading.specs.declared.parts.OwnList.{OwnList}
+use Rattle.lsys_reading.specs.declared.parts.OwnNames.{OwnNames}
 use Rattle.lsys_reading.specs.declared.rule.RuleLine.{RuleLine}
 
 -- the string after an axiom's word
@@ -39,5 +39,5 @@ abbrev pub written_homomorphism : List Token → LabeledRule → Command
 written_homomorphism ts l = put_homomorphism l.label (written_rule ts l.rule)
 
 -- to give a table its own list
-abbrev pub written_list : OwnList → Command
+abbrev pub written_list : OwnNames → Command
 written_list l = set_own (list_kind_of l.kind) l.table (map module_name l.names.items)

@@ -22,7 +22,7 @@ use crate::own_list::OwnList;
 use crate::parts::SystemParts;
 use lsys_bodies::{build_hom_rule, build_rule};
 use lsys_module::{StringRefusal, SymbolList, build_string};
-use lsys_reading::{LabeledRule, OwnList as ReadList, Parts};
+use lsys_reading::{CommandParts, LabeledRule, OwnNames as ReadList};
 use lsys_text::{Name, Token, Word};
 use std::alloc::{AllocError, Global};
 
@@ -31,7 +31,7 @@ pub(crate) fn changed(
     alloc: Global,
     parts: &SystemParts,
     tokens: &[Token],
-    edit: &Parts,
+    edit: &CommandParts,
 ) -> Result<SystemParts, AllocError>
     requires forms { AreTokens (kind_row tokens.now) }
     requires line { AreOfLine tokens.now }
@@ -40,32 +40,32 @@ pub(crate) fn changed(
     ensures { Changes parts.now (command_of tokens.now) result }
 {
     match edit {
-        Parts::Axiom => with_axiom(alloc, parts, tokens),
-        Parts::Production(labeled) => with_production(alloc, parts, tokens, labeled),
-        Parts::Drop(label) => without_rule(alloc, parts, *label),
-        Parts::Ignore(names) => with_ignored(alloc, parts, names),
-        Parts::Schedule(words) => with_schedule(alloc, parts, words),
-        Parts::Homomorphism(labeled) => with_hom_rule(alloc, parts, tokens, labeled),
-        Parts::Own(list) => with_own(alloc, parts, list),
-        Parts::Common(table) => without_own(alloc, parts, *table),
+        CommandParts::Axiom => with_axiom(alloc, parts, tokens),
+        CommandParts::Production(labeled) => with_production(alloc, parts, tokens, labeled),
+        CommandParts::Drop(label) => without_rule(alloc, parts, *label),
+        CommandParts::Ignore(names) => with_ignored(alloc, parts, names),
+        CommandParts::Schedule(words) => with_schedule(alloc, parts, words),
+        CommandParts::Homomorphism(labeled) => with_hom_rule(alloc, parts, tokens, labeled),
+        CommandParts::Own(list) => with_own(alloc, parts, list),
+        CommandParts::Common(table) => without_own(alloc, parts, *table),
         other => with_plain(parts, other),
     }
 }
 
 // Those after an edit of a number, of the lattice or of the numbering, or after a query.
-fn with_plain(parts: &SystemParts, edit: &Parts) -> Result<SystemParts, AllocError>
+fn with_plain(parts: &SystemParts, edit: &CommandParts) -> Result<SystemParts, AllocError>
     requires plain { IsPlainEdit edit.now }
-    requires depth { (n : ℕ) → edit.now ≡ Parts.Depth n → n ≤ most_depth_of_two }
-    requires version { (n : ℕ) → edit.now ≡ Parts.Version n → n ≤ greatest_version }
+    requires depth { (n : ℕ) → edit.now ≡ CommandParts.Depth n → n ≤ most_depth_of_two }
+    requires version { (n : ℕ) → edit.now ≡ CommandParts.Version n → n ≤ greatest_version }
     ensures { (ks : List Kind) → Changes parts.now (parts_command ks edit.now) result }
 {
     let mut next = parts.clone()?;
     match edit {
-        Parts::Seed(seed) => next.seed = *seed,
-        Parts::Depth(depth) => next.depth = *depth as u32,
-        Parts::Lattice(lattice) => next.lattice = *lattice,
-        Parts::Version(version) => next.version = *version as u32,
-        Parts::Lineage(numbering) => next.numbering = *numbering,
+        CommandParts::Seed(seed) => next.seed = *seed,
+        CommandParts::Depth(depth) => next.depth = *depth as u32,
+        CommandParts::Lattice(lattice) => next.lattice = *lattice,
+        CommandParts::Version(version) => next.version = *version as u32,
+        CommandParts::Lineage(numbering) => next.numbering = *numbering,
         _ => (),
     }
     Ok(next)

@@ -12,7 +12,7 @@ ghost use Rattle.lsys_rules.specs.WrittenCommands.{rule_place};
 
 use crate::refusal::Refusal;
 use lsys_bodies::FormalNames;
-use lsys_reading::{CommandKind, LabeledRule, Parts};
+use lsys_reading::{CommandKind, CommandParts, LabeledRule};
 use lsys_text::Token;
 use std::alloc::{AllocError, Global};
 use std::marker::Model;
@@ -20,7 +20,7 @@ use std::marker::Model;
 /// A line's command. Contracts see the tokens of the line, which spell the command, and how many bytes it has.
 #[derive(Drop)]
 pub struct Command {
-    line: lsys_reading::Command,
+    line: lsys_reading::ReadCommand,
     bytes: u32,
     /// The formals of its rule, where it has one.
     formals: Option<FormalNames>,
@@ -63,18 +63,18 @@ pub fn parse_command(alloc: Global, tokens: &[Token], length: u32) -> Result<Com
 fn formals(
     alloc: Global,
     tokens: &[Token],
-    parts: &Parts,
+    parts: &CommandParts,
 ) -> Result<Option<FormalNames>, AllocError>
     requires forms { AreTokens (kind_row tokens.now) }
     requires parts { IsParted (kind_row tokens.now) parts.now }
     ensures { IfOk result (HasFormalsOf tokens.now) }
 {
     match parts {
-        Parts::Production(labeled) => {
+        CommandParts::Production(labeled) => {
             let from = production_place(labeled);
             Ok(Some(FormalNames::of(alloc, from, &labeled.rule)?))
         }
-        Parts::Homomorphism(labeled) => Ok(Some(FormalNames::of(alloc, 3, &labeled.rule)?)),
+        CommandParts::Homomorphism(labeled) => Ok(Some(FormalNames::of(alloc, 3, &labeled.rule)?)),
         _ => Ok(None),
     }
 }
@@ -104,7 +104,7 @@ impl Command {
     }
 
     // What the tokens are the parts of.
-    pub(crate) fn parts(&self) -> &Parts
+    pub(crate) fn parts(&self) -> &CommandParts
         ensures { IsParted (kind_row self.now.tokens) result.now }
     {
         self.line.parts()

@@ -20,7 +20,7 @@ use crate::rule_faults::{homomorphism_fault, production_fault};
 use crate::system::System;
 use lsys_bodies::FormalNames;
 use lsys_module::first_many;
-use lsys_reading::Parts;
+use lsys_reading::CommandParts;
 use lsys_text::Token;
 
 /// What refuses a command: the first refusal in the order version, name, duplicate, mixed, label, table, level, many.
@@ -33,7 +33,7 @@ pub(crate) fn fault_of(system: &System, command: &Command) -> Option<Fault>
 fn parts_fault(
     system: &System,
     tokens: &[Token],
-    parts: &Parts,
+    parts: &CommandParts,
     formals: &Option<FormalNames>,
 ) -> Option<Fault>
     requires forms { AreTokens (kind_row tokens.now) }
@@ -42,22 +42,22 @@ fn parts_fault(
     ensures { Tells result (refusal system.now (parts_command (kind_row tokens.now) parts.now)) }
 {
     match (parts, formals) {
-        (Parts::Axiom, _) => axiom_fault(tokens),
-        (Parts::Production(labeled), Some(names)) => {
+        (CommandParts::Axiom, _) => axiom_fault(tokens),
+        (CommandParts::Production(labeled), Some(names)) => {
             production_fault(system, tokens, labeled, names)
         }
-        (Parts::Homomorphism(labeled), Some(names)) => {
+        (CommandParts::Homomorphism(labeled), Some(names)) => {
             homomorphism_fault(system, tokens, labeled, names)
         }
-        (Parts::Drop(label), _) => drop_fault(system, *label),
-        (Parts::Ignore(names), _) => ignore_fault(names),
-        (Parts::Schedule(words), _) => schedule_fault(system, words),
-        (Parts::Depth(depth), _) => depth_fault(system, *depth),
-        (Parts::String(level), _) => level_fault(system, *level),
-        (Parts::Version(version), _) => version_fault(system, *version),
-        (Parts::Own(list), _) => list_fault(system, list.table, &list.names),
-        (Parts::Common(table), _) => common_fault(system, *table),
-        (Parts::Lineage(_), _) => later_fault(system),
+        (CommandParts::Drop(label), _) => drop_fault(system, *label),
+        (CommandParts::Ignore(names), _) => ignore_fault(names),
+        (CommandParts::Schedule(words), _) => schedule_fault(system, words),
+        (CommandParts::Depth(depth), _) => depth_fault(system, *depth),
+        (CommandParts::String(level), _) => level_fault(system, *level),
+        (CommandParts::Version(version), _) => version_fault(system, *version),
+        (CommandParts::Own(list), _) => list_fault(system, list.table, &list.names),
+        (CommandParts::Common(table), _) => common_fault(system, *table),
+        (CommandParts::Lineage(_), _) => later_fault(system),
         _ => None,
     }
 }

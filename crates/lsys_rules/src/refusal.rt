@@ -58,17 +58,17 @@ impl From<AllocError> for Refusal {
     }
 }
 
-impl From<lsys_reading::Refusal> for Refusal {
+impl From<lsys_reading::ReadingRefusal> for Refusal {
     ghost use Rattle.std.specs.Prelude.{◌≡◌};
     ghost use Rattle.lsys_rules.specs.Parsing.{of_reading};
 
     ghost from_gives = { λ e r. r ≡ of_reading e };
 
-    fn from(refusal: lsys_reading::Refusal) -> Refusal {
+    fn from(refusal: lsys_reading::ReadingRefusal) -> Refusal {
         match refusal {
-            lsys_reading::Refusal::Token { column } => Refusal::Token { column },
-            lsys_reading::Refusal::Deep { column } => Refusal::Deep { column },
-            lsys_reading::Refusal::Memory => Refusal::Memory,
+            lsys_reading::ReadingRefusal::Token { column } => Refusal::Token { column },
+            lsys_reading::ReadingRefusal::Deep { column } => Refusal::Deep { column },
+            lsys_reading::ReadingRefusal::Memory => Refusal::Memory,
         }
     }
 }

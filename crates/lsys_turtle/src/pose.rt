@@ -15,13 +15,13 @@ const REACH: u64 = 1_000_000_000;
 
 /// A place within reach, a frame, and the width of what is drawn there.
 #[derive(Drop)]
-pub(crate) struct Pose<T: Lattice> {
+pub(crate) struct Stance<T: Lattice> {
     place: Place,
     frame: T::Frame,
     width: u32,
 }
 
-impl<T: Lattice> Model for Pose<T> {
+impl<T: Lattice> Model for Stance<T> {
     ghost use Rattle.lsys_syntax.specs.Limits.{greatest_coordinate};
     ghost use Rattle.lsys_spec.specs.Lattices.{IsWithin};
     ghost use Rattle.lsys_spec.specs.Pictures as P;
@@ -57,12 +57,12 @@ fn placed(x: Option<i64>, y: Option<i64>, z: Option<i64>) -> Option<Place>
     }
 }
 
-impl<T: Lattice> Pose<T> {
+impl<T: Lattice> Stance<T> {
     /// At 0 0 0, in the lattice's first frame, with width 1.
-    pub(crate) fn start() -> Pose<T>
+    pub(crate) fn start() -> Stance<T>
         ensures { result ≡ (at_start T.shape).pose }
     {
-        Pose {
+        Stance {
             place: Place { x: 0, y: 0, z: 0 },
             frame: T::start(),
             width: 1,
@@ -70,10 +70,10 @@ impl<T: Lattice> Pose<T> {
     }
 
     /// The same pose again.
-    pub(crate) fn again(&self) -> Pose<T>
+    pub(crate) fn again(&self) -> Stance<T>
         ensures { result ≡ self.now }
     {
-        Pose {
+        Stance {
             place: self.place,
             frame: self.frame,
             width: self.width,

@@ -5,7 +5,7 @@ ghost use Rattle.lsys_module.specs.Views.{symbol_of};
 ghost use Rattle.lsys_turtle.specs.Ways.{CanStep, IsReached, OnSegment, act_of, stepped_of, IsStepOf, SavesAsMany};
 
 use crate::act::Act;
-use crate::pose::Pose;
+use crate::pose::Stance;
 use crate::segment::{Far, Segment};
 use lsys_lattice::Lattice;
 use lsys_module::Symbol;
@@ -15,8 +15,8 @@ use std::marker::Model;
 /// A turtle on a lattice, with the poses that it saved at the open branches.
 #[derive(Drop)]
 pub struct Turtle<T: Lattice> {
-    pose: Pose<T>,
-    saved: Vec<Pose<T>>,
+    pose: Stance<T>,
+    saved: Vec<Stance<T>>,
     nest: usize,
 }
 
@@ -41,7 +41,7 @@ impl<T: Lattice> Turtle<T> {
         ensures room { IfOk result (λ made. made.room ≡ nest) }
     {
         Ok(Turtle {
-            pose: Pose::start(),
+            pose: Stance::start(),
             saved: Vec::with_capacity(alloc, nest)?,
             nest,
         })
@@ -52,7 +52,7 @@ impl<T: Lattice> Turtle<T> {
         ensures start { self.new.turtle ≡ at_start T.shape }
         ensures room { self.new.room ≡ self.old.room }
     {
-        self.pose = Pose::start();
+        self.pose = Stance::start();
         self.saved.clear();
     }
 

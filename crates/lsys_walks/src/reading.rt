@@ -71,13 +71,6 @@ impl<'a> Reading<'a> {
         }
     }
 
-    /// So far it agrees with the old trace.
-    pub fn is_front(&self) -> bool
-        ensures { IsTrue result ↔ IsFront self.now.read self.now.old }
-    {
-        self.agrees
-    }
-
     /// It is the old trace, whole.
     pub fn is_same(&self) -> bool
         ensures { IsTrue result ↔ (self.now.old ≡ self.now.read) }

@@ -3,12 +3,12 @@ use Rattle.std.proofs.lemmas.Result.{err_from_is_err_and}
 use Rattle.lsys_syntax.specs.Tokens.{Comma}
 use Rattle.lsys_syntax.specs.Expressions.{expr_kinds, expr_pieces}
 use Rattle.lsys_reading.specs.Spans.{expr_at}
-use Rattle.lsys_reading.specs.declared.span.Span.{Span}
+use Rattle.lsys_reading.specs.declared.span.ExprSpan.{ExprSpan}
 use Rattle.lsys_bodies.proofs.Searches.{copied-item, spans-item}
 use Rattle.lsys_bodies.proofs.CountLoops.{marked, marked-more, marked-passed, marked-done, span-size}
 use Rattle.lsys_bodies.proofs.many.count_params.Goals as goal
 
-abbrev none : Span
+abbrev none : ExprSpan
 none = record { from = 0; to = 0 }
 
 pub returns-in_err-counted : goal.returns-in_err-counted

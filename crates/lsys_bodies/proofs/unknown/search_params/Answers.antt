@@ -1,11 +1,11 @@
 use Rattle.std.proofs.Common.{arith}
 use Rattle.std.proofs.lemmas.Result.{err_from_is_err_and}
 use Rattle.lsys_text.specs.Tokens.{kind_row}
-use Rattle.lsys_reading.specs.declared.span.Span.{Span}
+use Rattle.lsys_reading.specs.declared.span.ExprSpan.{ExprSpan}
 use Rattle.lsys_bodies.proofs.Searches.{copied-item, spans-item, param-room, param-more, param-found, params-done, params}
 use Rattle.lsys_bodies.proofs.unknown.search_params.Goals as goal
 
-abbrev none : Span
+abbrev none : ExprSpan
 none = record { from = 0; to = 0 }
 
 pub overflow_add-end : goal.overflow_add-end

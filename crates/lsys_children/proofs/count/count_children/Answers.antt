@@ -4,7 +4,7 @@ use Rattle.std.proofs.lemmas.List.Sums.{sum_by_push, sum_by-take-le}
 use Rattle.lsys_forest.specs.Groves.{now_of}
 use Rattle.lsys_reading.specs.Commands.{numbering_of}
 use Rattle.lsys_children.proofs.MatchLemmas.{take_next, take_whole}
-use Rattle.lsys_children.specs.declared.count.Count.{Count}
+use Rattle.lsys_children.specs.declared.count.ChildCount.{ChildCount}
 use Rattle.lsys_children.specs.declared.parent.Parent.{Parent}
 use Rattle.lsys_children.specs.Needs.{IsBoundedCount, had_by, had_by_all, count_of_all, with_count}
 use Rattle.lsys_children.proofs.Needs.{count_push, small_push}
@@ -34,7 +34,7 @@ both-count-requires g c =
     let p = c.parent-item.result in
     let m = now_of c.args.forest.now in
     let here : slice_get ps i ≡ Some p = slice_get_read ps (length ps) i p refl c.loop-parent-test.true c.parent-item.is in
-    let one : c.in_ok-one.one.had ≡ had_by m p = ap (λ (x : Count). x.had) c.in_ok-one.ensures.count in
+    let one : c.in_ok-one.one.had ≡ had_by m p = ap (λ (x : ChildCount). x.had) c.in_ok-one.ensures.count in
     let sum : had_by_all m (take (i + 1) ps) ≡ had_by_all m (take i ps) + had_by m p = ap (had_by_all m) (take_next ps i p here) ∙ sum_by_push (had_by m) (take i ps) p in
     let most = sum_by-take-le (had_by m) ps (i + 1) in
     (i, had_by_all m (take i ps), c.loop-parent.invariant.small, c.in_ok-one.ensures.few, omega (arith, c.loop-parent-test.true, c.requires.few), omega (arith, sum, most, c.requires.had), omega (arith, one, sum, most, c.requires.had))
@@ -49,11 +49,11 @@ loop-parent-preserved g c =
     let here : slice_get ps i ≡ Some p = slice_get_read ps (length ps) i p refl c.loop-parent-test.true c.parent-item.is in
     let next = take_next ps i p here in
     let one = c.in_ok-one.ensures.count in
-    let had : c.in_ok-one.one.had ≡ had_by m p = ap (λ (x : Count). x.had) one in
+    let had : c.in_ok-one.one.had ≡ had_by m p = ap (λ (x : ChildCount). x.had) one in
     let sum : had_by_all m (take (i + 1) ps) ≡ had_by_all m (take i ps) + had_by m p = ap (had_by_all m) next ∙ sum_by_push (had_by m) (take i ps) p in
     record {
       count =
-          c.both-count.ensures ∙ ap (λ (x : Count). with_count x c.in_ok-one.one) c.loop-parent.invariant.count ∙ ap (with_count (count_of_all numbering m (take i ps))) one
+          c.both-count.ensures ∙ ap (λ (x : ChildCount). with_count x c.in_ok-one.one) c.loop-parent.invariant.count ∙ ap (with_count (count_of_all numbering m (take i ps))) one
           ∙ sym (count_push numbering m (take i ps) p) ∙ ap (count_of_all numbering m) (sym next);
       small = small_push i (had_by_all m (take i ps)) (had_by_all m (take (i + 1) ps)) c.loop-parent.count c.in_ok-one.one c.both-count.result c.loop-parent.invariant.small c.in_ok-one.ensures.few c.both-count.ensures (omega (arith, sum, had));
     }

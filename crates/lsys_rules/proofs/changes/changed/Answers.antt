@@ -2,7 +2,7 @@ use Rattle.std.proofs.Common.{arith, ◌≡◌, subst, sym}
 use Rattle.std.specs.Prelude.{IfOk}
 use Rattle.std.proofs.lemmas.Grind.{common_steps}
 use Rattle.lsys_spec.specs.Edits.{changed}
-use Rattle.lsys_reading.specs.declared.parts.Parts.TheVariants.{Production, Homomorphism}
+use Rattle.lsys_reading.specs.declared.parts.CommandParts.TheVariants.{Production, Homomorphism}
 use Rattle.lsys_rules.specs.Systems.{system_of}
 use Rattle.lsys_rules.proofs.Accepted.{parted_command, production_builds, homomorphism_builds}
 use Rattle.lsys_rules.proofs.changes.changed.Goals as goal

@@ -5,7 +5,7 @@ use Rattle.lsys_rewrite.specs.Faults.{fault_of}
 use Rattle.lsys_walks.specs.Noted.{entry_by}
 use Rattle.lsys_spec.specs.Choice.{none_tried}
 use Rattle.lsys_walks.proofs.Told.{on_err}
-use Rattle.lsys_match.specs.declared.outcome.Outcome.TheVariants as code
+use Rattle.lsys_match.specs.declared.outcome.RuleOutcome.TheVariants as code
 use Rattle.lsys_match.specs.Groups.{meant, rules_of}
 use Rattle.lsys_match.specs.Sites.{rule_told, first_told}
 use Rattle.lsys_match.specs.Tries.{IsTried, outcome_by, tried_so_far, entries_by}

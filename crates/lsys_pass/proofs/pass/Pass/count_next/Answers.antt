@@ -5,7 +5,7 @@ use Rattle.lsys_spec.specs.Systems.{System}
 use Rattle.lsys_match.specs.Kept.{Kept}
 use Rattle.lsys_forest.specs.Nodes.{Nodes}
 use Rattle.lsys_forest.specs.Groves.{now_of}
-use Rattle.lsys_children.specs.declared.count.Count.{Count}
+use Rattle.lsys_children.specs.declared.count.ChildCount.{ChildCount}
 use Rattle.lsys_children.specs.declared.parent.Parent.{Parent}
 use Rattle.lsys_children.specs.Needs.{had_by_all, count_of_all, needs}
 use Rattle.lsys_pass.specs.Passes.{PassView, now_in, stage_of}
@@ -38,7 +38,7 @@ returns-clause-need g c =
     let m : Nodes Kept = now_of c.self.inside.forest in
     let g' = c.lineage-numbering.ensures ∙ ap (λ (y : System). y.numbering) c.target.ensures in
     let count = c.in_ok-count.ensures.count ∙ ap (λ (n : Numbering). count_of_all n m c.deref.result.now) g' ∙ ap (λ (ps : List Parent). count_of_all (unwrap_or c.self.inside.next c.self.inside.system).numbering m ps) c.deref.ensures.value in
-    ap (λ (x : Count). x.need) count ∙ ap (λ (w : PassView). needs w.next.numbering (now_in w) c.args.parents.now.list.items) c.self.view_is
+    ap (λ (x : ChildCount). x.need) count ∙ ap (λ (w : PassView). needs w.next.numbering (now_in w) c.args.parents.now.list.items) c.self.view_is
 
 pub returns-clause-symbols : goal.returns-clause-symbols
 returns-clause-symbols g c = c.next_symbols.ensures ∙ ap (λ (w : PassView). symbols_wanted (stage_of w) c.args.level) c.self.view_is

@@ -1,7 +1,7 @@
 use Rattle.std.proofs.Common.{◌≡◌, ◌+◌, ◌^◌, ◌≤◌, ℕ, List, sum_by, sym, subst, ap, ◌∙◌, arith}
 use Rattle.lsys_spec.specs.Rows.{In}
 use Rattle.lsys_forest.specs.Groves.{now_of}
-use Rattle.lsys_children.specs.declared.count.Count.{Count}
+use Rattle.lsys_children.specs.declared.count.ChildCount.{ChildCount}
 use Rattle.lsys_children.specs.Needs.{had_by_all, wanted_of_all}
 use Rattle.lsys_pass.specs.Sizes.{symbols_at}
 use Rattle.lsys_pass.specs.Passes.{PassView, now_in}
@@ -13,7 +13,7 @@ pub returns-then-parents : goal.returns-then-parents
 returns-then-parents g c =
     let v : PassView = c.args.self.now in
     let ps = c.args.parents.now.list.items in
-    ap (λ (x : Count). x.wanted) c.requires.count ∙ walked_symbols v c.args.level c.requires.asked ps c.requires.found (is_walked v c.args.level c.args.parents.now.is_whole ps c.if-parents.true c.requires.either)
+    ap (λ (x : ChildCount). x.wanted) c.requires.count ∙ walked_symbols v c.args.level c.requires.asked ps c.requires.found (is_walked v c.args.level c.args.parents.now.is_whole ps c.if-parents.true c.requires.either)
 
 pub count_kids-gone-requires-clause-lives : goal.count_kids-gone-requires-clause-lives
 count_kids-gone-requires-clause-lives g c =
@@ -31,8 +31,8 @@ overflow_sub-result g c =
     let t = c.args.level in
     let ps = c.args.parents.now.list.items in
     let n = c.args.count.now in
-    let had : n.had ≡ had_by_all (now_in v) ps = ap (λ (x : Count). x.had) c.requires.count in
-    let wanted : n.wanted ≡ wanted_of_all v.next.numbering (now_in v) ps = ap (λ (x : Count). x.wanted) c.requires.count in
+    let had : n.had ≡ had_by_all (now_in v) ps = ap (λ (x : ChildCount). x.had) c.requires.count in
+    let wanted : n.wanted ≡ wanted_of_all v.next.numbering (now_in v) ps = ap (λ (x : ChildCount). x.wanted) c.requires.count in
     let was : c.symbols_of.result ≡ symbols_at v.sizes (t + 1) = c.symbols_of.ensures ∙ ap (λ (w : PassView). symbols_at w.sizes (t + 1)) c.self.view_is in
     let gone : c.count_kids-gone.result ≡ sum_by (kids_at (now_in v)) v.front.changes.gone = c.count_kids-gone.ensures ∙ ap (λ (ks : List ℕ). sum_by (kids_at (now_of c.self.inside.forest)) ks) c.gone_nodes.ensures ∙ ap (λ (w : PassView). sum_by (kids_at (now_in w)) w.front.changes.gone) c.self.view_is in
     let left = left_of v t c.requires.asked in
@@ -44,8 +44,8 @@ overflow_add-result g c =
     let t = c.args.level in
     let ps = c.args.parents.now.list.items in
     let n = c.args.count.now in
-    let had : n.had ≡ had_by_all (now_in v) ps = ap (λ (x : Count). x.had) c.requires.count in
-    let wanted : n.wanted ≡ wanted_of_all v.next.numbering (now_in v) ps = ap (λ (x : Count). x.wanted) c.requires.count in
+    let had : n.had ≡ had_by_all (now_in v) ps = ap (λ (x : ChildCount). x.had) c.requires.count in
+    let wanted : n.wanted ≡ wanted_of_all v.next.numbering (now_in v) ps = ap (λ (x : ChildCount). x.wanted) c.requires.count in
     let was : c.symbols_of.result ≡ symbols_at v.sizes (t + 1) = c.symbols_of.ensures ∙ ap (λ (w : PassView). symbols_at w.sizes (t + 1)) c.self.view_is in
     let gone : c.count_kids-gone.result ≡ sum_by (kids_at (now_in v)) v.front.changes.gone = c.count_kids-gone.ensures ∙ ap (λ (ks : List ℕ). sum_by (kids_at (now_of c.self.inside.forest)) ks) c.gone_nodes.ensures ∙ ap (λ (w : PassView). sum_by (kids_at (now_in w)) w.front.changes.gone) c.self.view_is in
     let left = left_of v t c.requires.asked in
@@ -60,8 +60,8 @@ overflow_sub-result-2 g c =
     let t = c.args.level in
     let ps = c.args.parents.now.list.items in
     let n = c.args.count.now in
-    let had : n.had ≡ had_by_all (now_in v) ps = ap (λ (x : Count). x.had) c.requires.count in
-    let wanted : n.wanted ≡ wanted_of_all v.next.numbering (now_in v) ps = ap (λ (x : Count). x.wanted) c.requires.count in
+    let had : n.had ≡ had_by_all (now_in v) ps = ap (λ (x : ChildCount). x.had) c.requires.count in
+    let wanted : n.wanted ≡ wanted_of_all v.next.numbering (now_in v) ps = ap (λ (x : ChildCount). x.wanted) c.requires.count in
     let was : c.symbols_of.result ≡ symbols_at v.sizes (t + 1) = c.symbols_of.ensures ∙ ap (λ (w : PassView). symbols_at w.sizes (t + 1)) c.self.view_is in
     let gone : c.count_kids-gone.result ≡ sum_by (kids_at (now_in v)) v.front.changes.gone = c.count_kids-gone.ensures ∙ ap (λ (ks : List ℕ). sum_by (kids_at (now_of c.self.inside.forest)) ks) c.gone_nodes.ensures ∙ ap (λ (w : PassView). sum_by (kids_at (now_in w)) w.front.changes.gone) c.self.view_is in
     let left = left_of v t c.requires.asked in
@@ -75,8 +75,8 @@ returns g c =
     let t = c.args.level in
     let ps = c.args.parents.now.list.items in
     let n = c.args.count.now in
-    let had : n.had ≡ had_by_all (now_in v) ps = ap (λ (x : Count). x.had) c.requires.count in
-    let wanted : n.wanted ≡ wanted_of_all v.next.numbering (now_in v) ps = ap (λ (x : Count). x.wanted) c.requires.count in
+    let had : n.had ≡ had_by_all (now_in v) ps = ap (λ (x : ChildCount). x.had) c.requires.count in
+    let wanted : n.wanted ≡ wanted_of_all v.next.numbering (now_in v) ps = ap (λ (x : ChildCount). x.wanted) c.requires.count in
     let was : c.symbols_of.result ≡ symbols_at v.sizes (t + 1) = c.symbols_of.ensures ∙ ap (λ (w : PassView). symbols_at w.sizes (t + 1)) c.self.view_is in
     let gone : c.count_kids-gone.result ≡ sum_by (kids_at (now_in v)) v.front.changes.gone = c.count_kids-gone.ensures ∙ ap (λ (ks : List ℕ). sum_by (kids_at (now_of c.self.inside.forest)) ks) c.gone_nodes.ensures ∙ ap (λ (w : PassView). sum_by (kids_at (now_in w)) w.front.changes.gone) c.self.view_is in
     let left = left_of v t c.requires.asked in

@@ -1,9 +1,0 @@
-use Rattle.std.proofs.Common.{arith}
-use Rattle.std.proofs.lemmas.Grind.{common_steps}
-use Rattle.lsys_flat.proofs.numbers.Numbers.next.Goals as goal
-
-pub overflow_add-count : goal.overflow_add-count
-overflow_add-count c = grind (arith, common_steps)
-
-pub returns-in_ok-insert-in-Names-clause-behind : goal.returns-in_ok-insert-in-Names-clause-behind
-returns-in_ok-insert-in-Names-clause-behind c = grind (arith, common_steps)

@@ -1,0 +1,10 @@
+use Rattle.std.proofs.Common.{◌≡◌, subst}
+use Rattle.lsys_forest.specs.Slots.{SlotTable, change_slot, answer_set, table_of}
+use Rattle.lsys_forest.proofs.TableLemmas.{changed_node}
+use Rattle.lsys_forest.proofs.table.NodeTable.swap_answer.Goals as goal
+
+pub returns-clause-changed : goal.returns-clause-changed
+returns-clause-changed g c =
+    let i = c.self.inside in
+    subst (λ (t : SlotTable g.row.A.Denot). table_of c.change_answer.new.nodes ≡ record t { slots = change_slot (answer_set c.args.answer) t.slots c.args.number }) c.self.view_is
+    (changed_node (answer_set c.args.answer) i.nodes c.change_answer.new.nodes c.args.number c.change_answer.ensures.changed)

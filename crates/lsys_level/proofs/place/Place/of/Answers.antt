@@ -1,6 +1,0 @@
-use Rattle.std.proofs.Common.{arith}
-use Rattle.std.proofs.lemmas.Grind.{elements}
-use Rattle.lsys_level.proofs.place.Place.of.Goals as goal
-
-pub returns-in-Module : goal.returns-in-Module
-returns-in-Module c = grind (arith, elements)
