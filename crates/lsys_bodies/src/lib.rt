@@ -25,4 +25,5 @@ pub use filter::Filter;
 pub use formals::FormalNames;
 pub use many::first_many;
 pub use rule::{HomRule, Rule};
+pub use same::same_name;
 pub use unknown::unknown_name;

@@ -55,7 +55,8 @@ fn same_pattern(one: &Pattern, other: &Pattern) -> bool
     same_name(one.name, other.name) && one.formals.len() == other.formals.len()
 }
 
-pub(crate) fn same_name(one: Name, other: Name) -> bool
+/// Whether two names are the same.
+pub fn same_name(one: Name, other: Name) -> bool
     ensures { result ≡ same_name (module_name one) (module_name other) }
 {
     one == other

@@ -10,7 +10,7 @@ use Rattle.lsys_spec.specs.Meaning.{LevelRefusal, children_from}
 use Rattle.lsys_level.specs.Spots.{Spotted}
 use Rattle.lsys_walks.specs.Stores.{Store}
 use Rattle.lsys_match.specs.TagQuestions.{TagAnswer}
-use Rattle.lsys_flat.specs.Grown.{IsGrown, nothing_grown}
+use Rattle.lsys_flat.specs.Grown.{HasGrown, nothing_grown}
 use Rattle.lsys_flat.specs.Steps.{ReplacedTo}
 use Rattle.lsys_flat.specs.Rounds.{AreNew, AskedTo, IsAt, Rounded, nothing_asked, inquiry}
 use Rattle.lsys_flat.proofs.News.{all_stay}
@@ -19,7 +19,7 @@ nothing_before : {E : Type 0} (r : Result (List Raw) E) → (r and_then λ more.
 nothing_before (Ok raw) = refl
 nothing_before (Err e) = refl
 
-pub none_grown : (seed : ℕ) (x : List LevelSymbol) (room : ℕ) → IsGrown seed x [] (nothing_grown room)
+pub none_grown : (seed : ℕ) (x : List LevelSymbol) (room : ℕ) → HasGrown seed x [] (nothing_grown room)
 none_grown seed x room = record {
   holds = λ e. record { cutting = refl; symbols = record { string = refl; children = tt; keys = refl }; within = omega arith };
   over = λ e. cc;

@@ -15,7 +15,7 @@ use Rattle.lsys_rewrite.specs.declared.refusal.DeriveRefusal.{DeriveRefusal}
 use Rattle.lsys_module.specs.Views.{string_of}
 use Rattle.lsys_module.specs.declared.symbol.Symbol.{Symbol as Code}
 use Rattle.lsys_level.specs.Spots.{Spotted}
-use Rattle.lsys_flat.specs.Grown.{Making, IsGrown, IsMadeWithin, nothing_made}
+use Rattle.lsys_flat.specs.Grown.{Making, HasGrown, IsMadeWithin, nothing_made}
 use Rattle.lsys_flat.proofs.Beginning.{none_grown}
 use Rattle.lsys_flat.specs.declared.level.Level.{Level}
 use Rattle.lsys_flat.proofs.Limiting.{begins_over}
@@ -86,14 +86,14 @@ begun_refused s limit old_lines d now (Some level) (Ok done) e h a = tt
 begun_refused s limit old_lines d now (Some level) (Err k) e h a = subst (IsLevelRefusal s limit) (sym a) tt
 
 pub axiom_made : (s : System) (room key : ℕ) (now before : Making) (symbols : List Code) (r : Option Level) → before ≡ nothing_made s.numbering room → key ≡ s.seed → string_of symbols ≡ s.axiom_string
-    → ((seed : ℕ) (above : List LevelSymbol) (raw : List Raw) (parent : LevelSymbol) → IsGrown seed above raw before.grown → slice_get above before.grown.parents ≡ Some parent → key ≡ key_of seed (lineage parent)
-    → IsGrown seed above (raw ++ children before.numbering (lineage parent) (string_of symbols)) now.grown)
-    → now.grown.room ≡ before.grown.room → ((seed : ℕ) (above : List LevelSymbol) (raw : List Raw) → IsGrown seed above raw now.grown → IsMadeWithin seed above raw now.grown.room r) → IsMadeWithin s.seed root_level (axiom_of s) room r
+    → ((seed : ℕ) (above : List LevelSymbol) (raw : List Raw) (parent : LevelSymbol) → HasGrown seed above raw before.grown → slice_get above before.grown.parents ≡ Some parent → key ≡ key_of seed (lineage parent)
+    → HasGrown seed above (raw ++ children before.numbering (lineage parent) (string_of symbols)) now.grown)
+    → now.grown.room ≡ before.grown.room → ((seed : ℕ) (above : List LevelSymbol) (raw : List Raw) → HasGrown seed above raw now.grown → IsMadeWithin seed above raw now.grown.room r) → IsMadeWithin s.seed root_level (axiom_of s) room r
 axiom_made s room key now before symbols r is is_key string grows same finishes =
-    let none : IsGrown s.seed root_level [] before.grown = subst (λ (m : Making). IsGrown s.seed root_level [] m.grown) (sym is) (none_grown s.seed root_level room) in
+    let none : HasGrown s.seed root_level [] before.grown = subst (λ (m : Making). HasGrown s.seed root_level [] m.grown) (sym is) (none_grown s.seed root_level room) in
     let there : slice_get root_level before.grown.parents ≡ Some (Push []) = ap (λ (m : Making). slice_get root_level m.grown.parents) is in
     let one = grows s.seed root_level [] (Push []) none there is_key in
-    let all : IsGrown s.seed root_level (axiom_of s) now.grown = subst (λ xs. IsGrown s.seed root_level (children s.numbering [] xs) now.grown) string (subst (λ g. IsGrown s.seed root_level (children g [] (string_of symbols)) now.grown) (ap (λ (m : Making). m.numbering) is) one) in
+    let all : HasGrown s.seed root_level (axiom_of s) now.grown = subst (λ xs. HasGrown s.seed root_level (children s.numbering [] xs) now.grown) string (subst (λ g. HasGrown s.seed root_level (children g [] (string_of symbols)) now.grown) (ap (λ (m : Making). m.numbering) is) one) in
     subst (λ n. IsMadeWithin s.seed root_level (axiom_of s) n r) (same ∙ ap (λ (m : Making). m.grown.room) is) (finishes s.seed root_level (axiom_of s) all)
 
 pub longer : (level : Level) (old : Drafted) (r now : Revised) (fresh : List (List (Option Kept))) (taken : List (List (Option ℕ))) (room asked all n : ℕ) → old ≡ record { revised = r; fresh = fresh; taken = taken; room = room; asked = asked; all = all }

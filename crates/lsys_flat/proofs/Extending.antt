@@ -22,7 +22,7 @@ use Rattle.lsys_flat.proofs.Naming.{drop_there}
 use Rattle.lsys_flat.specs.Origins.{origin_number, IsChild, AreChildren}
 use Rattle.lsys_flat.specs.declared.numbers.ChildNumbers.{ChildNumbers}
 use Rattle.lsys_flat.specs.Counts.{origin_at, HasNumbered}
-use Rattle.lsys_flat.specs.Grown.{Grown, grown_by_symbol, where_room, with_child, with_children, cutting_behind_all, HasSymbols, HoldsCut, IsGrown}
+use Rattle.lsys_flat.specs.Grown.{Grown, grown_by_symbol, where_room, with_child, with_children, cutting_behind_all, HasSymbols, HoldsCut, HasGrown}
 
 -- 1. one symbol more, cut
 
@@ -102,7 +102,7 @@ more_symbols seed above y symbols origins keys parent a o key s h e l small g k 
       (λ i. h.keys i ++ sym own i ∷ []) ∙ sym (map-append (λ s. key_of seed (lineage s)) y (a ∷ []));
 }
 
-module _ (seed : ℕ) (above : List L.LevelSymbol) (raw : List Raw) (g : Grown) (parent : L.LevelSymbol) (o : Origin) (key : ℕ) (s : Symbol) (r : Raw) (h : IsGrown seed above raw g) (e : raw_plain r ≡ symbol_of s)
+module _ (seed : ℕ) (above : List L.LevelSymbol) (raw : List Raw) (g : Grown) (parent : L.LevelSymbol) (o : Origin) (key : ℕ) (s : Symbol) (r : Raw) (h : HasGrown seed above raw g) (e : raw_plain r ≡ symbol_of s)
     (l : raw_lineage r ≡ lineage parent ++ origin_number o ∷ []) (small : o.count < number_base) (there : slice_get above o.parent ≡ Some parent) (k : key ≡ key_of seed (lineage parent)) where
   longer : g.room < length (cut raw) → g.room < length (cut (raw ++ r ∷ []))
   longer n = omega (arith, ap length (cut_more None raw r), length-append (cut raw) (cut_on (cutting_behind_all None raw) (r ∷ [])))
@@ -116,7 +116,7 @@ module _ (seed : ℕ) (above : List L.LevelSymbol) (raw : List Raw) (g : Grown) 
   left_now : (xs : List L.LevelSymbol) → g.cutting ≡ cutting_behind_all None raw → cut_on g.cutting (r ∷ []) ≡ xs → cut (raw ++ r ∷ []) ≡ cut raw ++ xs
   left_now xs c d = cut_more None raw r ∙ ap (λ o. cut raw ++ cut_on o (r ∷ [])) (sym c) ∙ ap (λ ys. cut raw ++ ys) d
 
-  passes : symbol_stays g.cutting (symbol_of s) ≡ false → g.fits ≡ true → IsGrown seed above (raw ++ r ∷ []) (record g { cutting = cutting_behind g.cutting (symbol_of s) })
+  passes : symbol_stays g.cutting (symbol_of s) ≡ false → g.fits ≡ true → HasGrown seed above (raw ++ r ∷ []) (record g { cutting = cutting_behind g.cutting (symbol_of s) })
   passes b f =
       let was : HoldsCut seed above raw g = h.holds f in
       let same : cut (raw ++ r ∷ []) ≡ cut raw = left_now [] was.cutting (passed g.cutting r (ap (symbol_stays g.cutting) e ∙ b)) ∙ append-nil (cut raw) in
@@ -129,7 +129,7 @@ module _ (seed : ℕ) (above : List L.LevelSymbol) (raw : List Raw) (g : Grown) 
         over = λ i. let no : true ≡ false = sym f ∙ i in cc;
       }
 
-  stays_on : symbol_stays g.cutting (symbol_of s) ≡ true → g.fits ≡ true → IsGrown seed above (raw ++ r ∷ []) (where_room o key s (record g { cutting = cutting_behind g.cutting (symbol_of s) }))
+  stays_on : symbol_stays g.cutting (symbol_of s) ≡ true → g.fits ≡ true → HasGrown seed above (raw ++ r ∷ []) (where_room o key s (record g { cutting = cutting_behind g.cutting (symbol_of s) }))
   stays_on b f = by (length g.symbols == g.room) refl
     where
       was : HoldsCut seed above raw g
@@ -148,7 +148,7 @@ module _ (seed : ℕ) (above : List L.LevelSymbol) (raw : List Raw) (g : Grown) 
       size = ap length whole ∙ length-append (cut raw) (it.0 ∷ [])
 
       by : (b : Bool) → length g.symbols == g.room ≡ b
-          → IsGrown seed above (raw ++ r ∷ []) (cond b (record g { cutting = cutting_behind g.cutting (symbol_of s); fits = false }) (grown_by_symbol o key s (record g { cutting = cutting_behind g.cutting (symbol_of s) })))
+          → HasGrown seed above (raw ++ r ∷ []) (cond b (record g { cutting = cutting_behind g.cutting (symbol_of s); fits = false }) (grown_by_symbol o key s (record g { cutting = cutting_behind g.cutting (symbol_of s) })))
       by true full = record {
         holds = λ i. cc;
         over = λ i. let all : length g.symbols ≡ g.room = eqb-true (length g.symbols) g.room full in omega (arith, all, count, size);
@@ -163,16 +163,16 @@ module _ (seed : ℕ) (above : List L.LevelSymbol) (raw : List Raw) (g : Grown) 
         over = λ i. let no : true ≡ false = sym f ∙ i in cc;
       }
 
-  pub child_grown : IsGrown seed above (raw ++ r ∷ []) (with_child o key s g)
+  pub child_grown : HasGrown seed above (raw ++ r ∷ []) (with_child o key s g)
   child_grown = by g.fits refl
     where
       by_stays : g.fits ≡ true → (b : Bool) → symbol_stays g.cutting (symbol_of s) ≡ b
-          → IsGrown seed above (raw ++ r ∷ []) (cond b (where_room o key s (record g { cutting = cutting_behind g.cutting (symbol_of s) })) (record g { cutting = cutting_behind g.cutting (symbol_of s) }))
+          → HasGrown seed above (raw ++ r ∷ []) (cond b (where_room o key s (record g { cutting = cutting_behind g.cutting (symbol_of s) })) (record g { cutting = cutting_behind g.cutting (symbol_of s) }))
       by_stays f true b = stays_on b f
       by_stays f false b = passes b f
 
       by : (b : Bool) → g.fits ≡ b
-          → IsGrown seed above (raw ++ r ∷ [])
+          → HasGrown seed above (raw ++ r ∷ [])
           (cond b (cond (symbol_stays g.cutting (symbol_of s)) (where_room o key s (record g { cutting = cutting_behind g.cutting (symbol_of s) })) (record g { cutting = cutting_behind g.cutting (symbol_of s) })) g)
       by true f = by_stays f (symbol_stays g.cutting (symbol_of s)) refl
       by false f = record {
@@ -204,9 +204,9 @@ same_parent by_place parent n before c = refl
 same_parent by_name parent n before c = refl
 
 module _ (g : Numbering) (seed : ℕ) (above : List L.LevelSymbol) (place key : ℕ) (parent : L.LevelSymbol) (there : slice_get above place ≡ Some parent) (k : key ≡ key_of seed (lineage parent)) where
-  pub children_grown : (n : ℕ) (before : List ℕ) (ss : List Symbol) (raw : List Raw) (made : Grown) → length before ≡ n → n + length ss ≤ number_base → IsGrown seed above raw made
-      → IsGrown seed above (raw ++ numbered g n before (lineage parent) (string_of ss)) (with_children g place key n before ss made)
-  children_grown n before [] raw made e few h = subst (λ x. IsGrown seed above x made) (sym (append-nil raw)) h
+  pub children_grown : (n : ℕ) (before : List ℕ) (ss : List Symbol) (raw : List Raw) (made : Grown) → length before ≡ n → n + length ss ≤ number_base → HasGrown seed above raw made
+      → HasGrown seed above (raw ++ numbered g n before (lineage parent) (string_of ss)) (with_children g place key n before ss made)
+  children_grown n before [] raw made e few h = subst (λ x. HasGrown seed above x made) (sym (append-nil raw)) h
   children_grown n before (s ∷ ss) raw made e few h =
       let c = code_of (symbol_of s) in
       let l : List ℕ = lineage parent ++ number_at g n before c ∷ [] in
@@ -214,12 +214,12 @@ module _ (g : Numbering) (seed : ℕ) (above : List L.LevelSymbol) (place key : 
       let o : Origin = origin_at g place n before c in
       let number : raw_lineage r ≡ lineage parent ++ origin_number o ∷ [] = born_lineage l (symbol_of s) ∙ ap (λ i. lineage parent ++ i ∷ []) (same_number g place n before c) in
       let small : o.count < number_base = small_count g place n before c e (omega (arith, few)) in
-      subst (λ x. IsGrown seed above x (with_children g place key n before (s ∷ ss) made)) (append_assoc raw (r ∷ []) (numbered g (n + 1) (c ∷ before) (lineage parent) (string_of ss)))
+      subst (λ x. HasGrown seed above x (with_children g place key n before (s ∷ ss) made)) (append_assoc raw (r ∷ []) (numbered g (n + 1) (c ∷ before) (lineage parent) (string_of ss)))
       (children_grown (n + 1) (c ∷ before) ss (raw ++ r ∷ []) (with_child o key s made) (omega (arith, e)) (omega (arith, few))
       (child_grown seed above raw made parent o key s r h (born_plain l s) number small (ap (slice_get above) (same_parent g place n before c) ∙ there) k))
 
 -- one parent more
-pub one_parent : (seed : ℕ) (above : List L.LevelSymbol) (raw : List Raw) (g : Grown) (n : ℕ) → IsGrown seed above raw g → IsGrown seed above raw (record g { parents = n })
+pub one_parent : (seed : ℕ) (above : List L.LevelSymbol) (raw : List Raw) (g : Grown) (n : ℕ) → HasGrown seed above raw g → HasGrown seed above raw (record g { parents = n })
 one_parent seed above raw g n h = record {
   holds = λ f. let was : HoldsCut seed above raw g = h.holds f in record { cutting = was.cutting; symbols = was.symbols; within = was.within };
   over = h.over;

@@ -22,7 +22,7 @@ use Rattle.lsys_match.specs.Asks.{IsNamedAt, StaysAsKept, by_definition}
 use Rattle.lsys_match.specs.TagQuestions.{TagAnswer}
 use Rattle.lsys_match.specs.declared.answer.Answer.{Answer}
 use Rattle.lsys_match.specs.declared.refusal.AskRefusal.{AskRefusal}
-use Rattle.lsys_flat.specs.Grown.{IsGrown}
+use Rattle.lsys_flat.specs.Grown.{HasGrown}
 use Rattle.lsys_flat.specs.Steps.{ReplacedTo, modules_up_to}
 use Rattle.lsys_flat.proofs.Stepping.{goes_on}
 use Rattle.lsys_flat.specs.declared.found.SymbolAnswer.{SymbolAnswer}
@@ -125,7 +125,7 @@ module _ {L : Type 0} (s : System) (t : ℕ) (row : List Spotted) (mates : List 
         (goes_on s t (level_by naming row) p r.modules h.raw a (string_found (seen_by a) old f) h.replaced there (string_here (replacement s t (level_by naming row) p a) a old f replaced));
     numbering = replaces.numbering ∙ h.numbering;
     grown =
-        subst (λ g. IsGrown s.seed (level_by naming row) (h.raw ++ children g (lineage a) (string_found (seen_by a) old f)) after_r.next.grown) h.numbering
+        subst (λ g. HasGrown s.seed (level_by naming row) (h.raw ++ children g (lineage a) (string_found (seen_by a) old f)) after_r.next.grown) h.numbering
         (replaces.grown s.seed (level_by naming row) h.raw a h.grown (ap (slice_get (level_by naming row)) at.parents ∙ there) refl);
     found = λ q b l e. by q b e (below q l);
     read =

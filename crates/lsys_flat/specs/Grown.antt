@@ -80,7 +80,7 @@ pub record HoldsCut (seed : ℕ) (above : List L.LevelSymbol) (raw : List Raw) (
   pub within : length (cut raw) ≤ g.room
 
 -- What the cut leaves of the children so far, by a seed and the level above, or there is no room for it.
-pub record IsGrown (seed : ℕ) (above : List L.LevelSymbol) (raw : List Raw) (g : Grown) : Type 0 where
+pub record HasGrown (seed : ℕ) (above : List L.LevelSymbol) (raw : List Raw) (g : Grown) : Type 0 where
   pub holds : g.fits ≡ true → HoldsCut seed above raw g
   pub over : g.fits ≡ false → g.room < length (cut raw)
 
@@ -91,13 +91,13 @@ IsMadeWithin seed above raw room (Some level) = (length (cut raw) ≤ room) × H
 
 -- by whatever seed and level above it, this is what was made of what has grown
 abbrev pub IsFinished : Grown → Option Level → Type 0
-IsFinished g level = (seed : ℕ) (above : List L.LevelSymbol) (raw : List Raw) → IsGrown seed above raw g → IsMadeWithin seed above raw g.room level
+IsFinished g level = (seed : ℕ) (above : List L.LevelSymbol) (raw : List Raw) → HasGrown seed above raw g → IsMadeWithin seed above raw g.room level
 
 -- these children of the next symbol, which has this key, have grown
 abbrev pub GrowsByChildren : Numbering → ℕ → List (S.Symbol ℤ) → Grown → Grown → Type 0
 GrowsByChildren g key ys before after =
-    (seed : ℕ) (above : List L.LevelSymbol) (raw : List Raw) (parent : L.LevelSymbol) → IsGrown seed above raw before → slice_get above before.parents ≡ Some parent → key ≡ key_of seed (lineage parent)
-    → IsGrown seed above (raw ++ children g (lineage parent) ys) after
+    (seed : ℕ) (above : List L.LevelSymbol) (raw : List Raw) (parent : L.LevelSymbol) → HasGrown seed above raw before → slice_get above before.parents ≡ Some parent → key ≡ key_of seed (lineage parent)
+    → HasGrown seed above (raw ++ children g (lineage parent) ys) after
 
 abbrev pub AddsChildren : ℕ → List (S.Symbol ℤ) → Making → Making → Type 0
 AddsChildren key ys before after = GrowsByChildren before.numbering key ys before.grown after.grown

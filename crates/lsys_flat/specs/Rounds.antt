@@ -20,7 +20,7 @@ use Rattle.lsys_match.specs.declared.refusal.AskRefusal.TheVariants as asks
 use Rattle.lsys_rewrite.specs.Faults.{fault_of}
 use Rattle.lsys_rewrite.specs.declared.refusal.DeriveRefusal.{DeriveRefusal}
 use Rattle.lsys_rewrite.specs.declared.refusal.DeriveRefusal.TheVariants as refusals
-use Rattle.lsys_flat.specs.Grown.{Making, IsGrown, AddsChildren, nothing_made}
+use Rattle.lsys_flat.specs.Grown.{Making, HasGrown, AddsChildren, nothing_made}
 use Rattle.lsys_flat.specs.Steps.{ReplacedTo}
 use Rattle.lsys_module.specs.Views.{string_of}
 use Rattle.lsys_flat.specs.declared.found.SymbolAnswer.{SymbolAnswer}
@@ -110,7 +110,7 @@ pub record AskedTo (k : Inquiry) (store : Store) (r : Rounded) (before after p :
   pub raw : List Raw
   pub replaced : ReplacedTo k.system k.number k.level p r.modules raw
   pub numbering : r.next.numbering ≡ k.system.numbering
-  pub grown : IsGrown k.system.seed k.level raw r.next.grown
+  pub grown : HasGrown k.system.seed k.level raw r.next.grown
   pub found : (q : ℕ) (a : LevelSymbol) → q < p → slice_get k.level q ≡ Some a →
       IsFoundOut k.system k.number k.row q (question_here k.system k.number k.level q a) (slot_by_place k.mates q) (slot_where_told k.olds (slot_by_place k.mates q)) (slot_by_place (answers_told store r.fresh) q) (slot_by_place r.taken q)
   pub read : after + entries_of (questions_from k.system k.number k.level p (drop p k.level)) ≡ before + entries_of (questions_at k.system k.number k.level)

@@ -15,8 +15,8 @@ use Rattle.lsys_forest.specs.Nodes.{Node, Nodes, seen_as}
 use Rattle.lsys_forest.specs.Rows.{index_in, oriented, spot_in}
 use Rattle.lsys_forest.specs.Mates.{nested, IsBracketThat, seen_level, IsMateThat}
 use Rattle.lsys_forest.specs.declared.node.Footing.{Footing}
-use Rattle.lsys_forest.specs.Slots.{mate_at}
-use Rattle.lsys_forest.specs.Pairs.{turned, opening, ends_or, end_of, seen_at, AreMatedIn}
+use Rattle.lsys_forest.specs.Slots.{footing_mate}
+use Rattle.lsys_forest.specs.Pairs.{open_after, branch_opening, ends_or, branch_end, seen_at, AreMatedIn}
 use Rattle.lsys_forest.proofs.RowLemmas.{In_right, In_split, oriented_In_back, index_of}
 use Rattle.lsys_forest.proofs.WalkLemmas.{mirrored_around, mirrored_twice, mirrored_push}
 
@@ -131,7 +131,7 @@ way_size : (way : Way) (xs : List ℕ) → length (oriented way xs) ≡ length x
 way_size Right xs = refl
 way_size Left xs = mirror_size xs
 
-turned_kind : (way : Way) (kind : NodeKind) (params : List ℤ) (n : ℕ) → turned way (seen_as kind params) n ≡ nested way kind n
+turned_kind : (way : Way) (kind : NodeKind) (params : List ℤ) (n : ℕ) → open_after way (seen_as kind params) n ≡ nested way kind n
 turned_kind Right kinds.Push params n = refl
 turned_kind Right kinds.Pop params n = refl
 turned_kind Right (kinds.Module name) params n = refl
@@ -365,23 +365,23 @@ module _ {A : Type 0} where
     pub params : List ℤ
     pub seen : node.seen ≡ seen_as kind params
 
-  walk_whole : (way : Way) (m : Nodes A) (level : List ℕ) (node : ℕ) (top : Node A) → AreApart level → m node ≡ Some top → IsBracketThat way (Some top) → level_balanced 0 (seen_level (λ tag. []) m level) ≡ true → ((q : ℕ) → In q level → IsOfKind m q) → (rest : List ℕ) (inside : ℕ) (at : Option ℕ) (w : IsWalk way m level node inside at) → w.ahead ≡ rest → (q : ℕ) × (end_of way (seen_at m) inside rest ≡ Some q) × IsMateThat way m level node q
+  walk_whole : (way : Way) (m : Nodes A) (level : List ℕ) (node : ℕ) (top : Node A) → AreApart level → m node ≡ Some top → IsBracketThat way (Some top) → level_balanced 0 (seen_level (λ tag. []) m level) ≡ true → ((q : ℕ) → In q level → IsOfKind m q) → (rest : List ℕ) (inside : ℕ) (at : Option ℕ) (w : IsWalk way m level node inside at) → w.ahead ≡ rest → (q : ℕ) × (branch_end way (seen_at m) inside rest ≡ Some q) × IsMateThat way m level node q
   walk_whole way m level node top apart is bracket balanced kind [] inside at w e = absurd (walk_ends way m level node inside top balanced is bracket (subst (IsWalk way m level node inside) (w.at_is ∙ ap first_in e) w))
   walk_whole way m level node top apart is bracket balanced kind (q ∷ rest) inside at w e =
       let there = met way m level node inside q at w (w.at_is ∙ ap first_in e) in
       let here = kind q (met_among way m level node inside q there) in
-      let turns : turned way (seen_at m q) inside ≡ nested way here.kind inside = ap (λ (o : Option (Node A)). turned way (spot_in q o).seen inside) here.is ∙ ap (λ s. turned way s inside) here.seen ∙ turned_kind way here.kind here.params inside in
+      let turns : open_after way (seen_at m q) inside ≡ nested way here.kind inside = ap (λ (o : Option (Node A)). open_after way (spot_in q o).seen inside) here.is ∙ ap (λ s. open_after way s inside) here.seen ∙ turned_kind way here.kind here.params inside in
       go there here turns (nested way here.kind inside) refl (λ still y same. walk_whole way m level node top apart is bracket balanced kind rest still (first_in rest) y same)
     where
-      go : (there : IsMet way m level node inside q) (here : IsOfKind m q) → turned way (seen_at m q) inside ≡ nested way here.kind inside → (o : Option ℕ) → nested way here.kind inside ≡ o → ((still : ℕ) (y : IsWalk way m level node still (first_in rest)) → y.ahead ≡ rest → (r : ℕ) × (end_of way (seen_at m) still rest ≡ Some r) × IsMateThat way m level node r) → (r : ℕ) × (end_of way (seen_at m) inside (q ∷ rest) ≡ Some r) × IsMateThat way m level node r
-      go there here turns None f on = (q, ap (λ o. ends_or o q (λ k. end_of way (seen_at m) k rest)) (turns ∙ f), walk_found way m level node inside q top here.node here.kind here.params apart is bracket here.is here.seen f there)
+      go : (there : IsMet way m level node inside q) (here : IsOfKind m q) → open_after way (seen_at m q) inside ≡ nested way here.kind inside → (o : Option ℕ) → nested way here.kind inside ≡ o → ((still : ℕ) (y : IsWalk way m level node still (first_in rest)) → y.ahead ≡ rest → (r : ℕ) × (branch_end way (seen_at m) still rest ≡ Some r) × IsMateThat way m level node r) → (r : ℕ) × (branch_end way (seen_at m) inside (q ∷ rest) ≡ Some r) × IsMateThat way m level node r
+      go there here turns None f on = (q, ap (λ o. ends_or o q (λ k. branch_end way (seen_at m) k rest)) (turns ∙ f), walk_found way m level node inside q top here.node here.kind here.params apart is bracket here.is here.seen f there)
       go there here turns (Some still) f on =
           let y = walk_past way m level node inside still q at here.node here.kind here.params rest here.is here.seen f w e in
           let r = on still y.0 y.1 in
-          (r.0, ap (λ o. ends_or o q (λ k. end_of way (seen_at m) k rest)) (turns ∙ f) ∙ r.1, r.2)
+          (r.0, ap (λ o. ends_or o q (λ k. branch_end way (seen_at m) k rest)) (turns ∙ f) ∙ r.1, r.2)
 
   -- on a level with mates, what stands at a bracket is its mate
-  pub mate_stands : (way : Way) (m : Nodes A) (level : List ℕ) (footings : List Footing) (node : ℕ) (top : Node A) → AreApart level → In node level → m node ≡ Some top → IsBracketThat way (Some top) → level_balanced 0 (seen_level (λ tag. []) m level) ≡ true → ((q : ℕ) → In q level → IsOfKind m q) → AreMatedIn (seen_at m) level footings → (q : ℕ) × (mate_at footings node ≡ Some q) × IsMateThat way m level node q
+  pub mate_stands : (way : Way) (m : Nodes A) (level : List ℕ) (footings : List Footing) (node : ℕ) (top : Node A) → AreApart level → In node level → m node ≡ Some top → IsBracketThat way (Some top) → level_balanced 0 (seen_level (λ tag. []) m level) ≡ true → ((q : ℕ) → In q level → IsOfKind m q) → AreMatedIn (seen_at m) level footings → (q : ℕ) × (footing_mate footings node ≡ Some q) × IsMateThat way m level node q
   mate_stands way m level footings node top apart among is bracket balanced kind mated =
       let s = In_split node level among in
       let b = subst (IsBracketThat way) (sym is) bracket in
@@ -389,6 +389,6 @@ module _ {A : Type 0} where
       let r = walk_whole way m level node top apart is bracket balanced kind (walked way s.0 s.1) 0 (first_in (walked way s.0 s.1)) w (walk_started way m level s.0 s.1 node (first_in (walked way s.0 s.1)) s.2 b refl) in
       (r.0, mated node r.0 way (other_side way s.0 s.1) (walked way s.0 s.1) (that_way way level s.0 s.1 node s.2) (opens way bracket) r.1, r.2)
     where
-      opens : (way : Way) → IsBracketThat way (Some top) → seen_at m node ≡ opening way
+      opens : (way : Way) → IsBracketThat way (Some top) → seen_at m node ≡ branch_opening way
       opens Right b = ap (λ (o : Option (Node A)). (spot_in node o).seen) is ∙ b
       opens Left b = ap (λ (o : Option (Node A)). (spot_in node o).seen) is ∙ b

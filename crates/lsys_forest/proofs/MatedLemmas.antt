@@ -7,7 +7,7 @@ use Rattle.std.proofs.lemmas.Option.{same_Some}
 use Rattle.lsys_spec.specs.Rows.{In, AreApart, first_in}
 use Rattle.lsys_forest.specs.declared.node.Footing.{Footing}
 use Rattle.lsys_forest.specs.declared.walk.Way.{Way}
-use Rattle.lsys_forest.specs.Slots.{footing_at, link_at, mate_at}
+use Rattle.lsys_forest.specs.Slots.{footing_at, link_at, footing_mate}
 use Rattle.lsys_forest.specs.Nodes.{Node, Nodes}
 use Rattle.lsys_forest.specs.Changes.{Missing, Change, Previous}
 use Rattle.lsys_forest.specs.Stocks.{Stock, nodes_of, changes_of, Journals}
@@ -110,12 +110,12 @@ module _ {A : Type 0} where
   same_linked m root footings footings' linked same are = λ t k way before after less whole. same way k ∙ are t k way before after less whole
 
   -- where all mates stay
-  pub same_mated : (m : Nodes A) (root : ℕ) (footings footings' : List Footing) (mated : ℕ) → ((k : ℕ) → mate_at footings' k ≡ mate_at footings k) → AreMated m root footings mated → AreMated m root footings' mated
+  pub same_mated : (m : Nodes A) (root : ℕ) (footings footings' : List Footing) (mated : ℕ) → ((k : ℕ) → footing_mate footings' k ≡ footing_mate footings k) → AreMated m root footings mated → AreMated m root footings' mated
   same_mated m root footings footings' mated same are = λ t less k mate way before after whole opens end. same k ∙ are t less k mate way before after whole opens end
 
   -- 2. mates that stay
 
-  mated_on : (root : ℕ) (changes : List (Change A)) (m m' : Nodes A) (footings footings' : List Footing) (mated mated' : ℕ) → IsRooted root changes m' → mated' ≤ mated → ((t : ℕ) → t < mated' → level_nodes m' root t ≡ level_nodes m root t) → ((t k : ℕ) → t < mated' → In k (level_nodes m' root t) → AreSameSort (seen_at m k) (seen_at m' k)) → ((k : ℕ) → IsSome (m' k) → mate_at footings' k ≡ mate_at footings k) → AreMated m root footings mated → AreMated m' root footings' mated'
+  mated_on : (root : ℕ) (changes : List (Change A)) (m m' : Nodes A) (footings footings' : List Footing) (mated mated' : ℕ) → IsRooted root changes m' → mated' ≤ mated → ((t : ℕ) → t < mated' → level_nodes m' root t ≡ level_nodes m root t) → ((t k : ℕ) → t < mated' → In k (level_nodes m' root t) → AreSameSort (seen_at m k) (seen_at m' k)) → ((k : ℕ) → IsSome (m' k) → footing_mate footings' k ≡ footing_mate footings k) → AreMated m root footings mated → AreMated m' root footings' mated'
   mated_on root changes m m' footings footings' mated mated' sound fewer same sorts stay are = λ t less k mate way before after whole opens end.
       let among : (j : ℕ) → In j (k ∷ after) → In j (level_nodes m' root t) = λ j h. oriented_In_back way j (level_nodes m' root t) (subst (In j) (sym whole) (In_right j before (k ∷ after) h)) in
       stay k (level_live root changes m' sound t k (among k (inl refl)))
@@ -189,7 +189,7 @@ module _ {A : Type 0} where
       ]
 
   -- the children of a node were set, and their ranks then
-  pub kids_mated : (root : ℕ) (changes : List (Change A)) (old new : Stock A) (footings : List Footing) (node mated mated' : ℕ) (was now : Node A) (before : Previous A) (params kids : ℕ) → IsRooted root changes (nodes_of new) → nodes_of old node ≡ Some was → now.seen ≡ was.seen → Journals old new node (Some now) before 0 params kids → ((k : ℕ) → mate_at footings k ≡ mate_at new.footings k) → mated' ≤ mated → mated' ≤ depth_in (nodes_of new node) → AreMated (nodes_of old) root old.footings mated → AreMated (nodes_of new) root footings mated'
+  pub kids_mated : (root : ℕ) (changes : List (Change A)) (old new : Stock A) (footings : List Footing) (node mated mated' : ℕ) (was now : Node A) (before : Previous A) (params kids : ℕ) → IsRooted root changes (nodes_of new) → nodes_of old node ≡ Some was → now.seen ≡ was.seen → Journals old new node (Some now) before 0 params kids → ((k : ℕ) → footing_mate footings k ≡ footing_mate new.footings k) → mated' ≤ mated → mated' ≤ depth_in (nodes_of new node) → AreMated (nodes_of old) root old.footings mated → AreMated (nodes_of new) root footings mated'
   kids_mated root changes old new footings node mated mated' was now before params kids sound is same j mates fewer high are =
       mated_on root changes (nodes_of old) (nodes_of new) old.footings footings mated mated' sound fewer (λ t less. levels_above root changes (nodes_of old) (nodes_of new) node sound kept t (omega (arith, less, high))) (λ t k less h. sorts k) (λ k lives. mates k ∙ ap (λ (f : Footing). f.mate) (j.footings k (lived k lives))) are
     where

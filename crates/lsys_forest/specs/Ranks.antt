@@ -4,7 +4,7 @@ use Rattle.lsys_spec.specs.Rows.{first_in, mirrored, In, AreApart}
 use Rattle.lsys_forest.specs.declared.node.Footing.{Footing}
 use Rattle.lsys_forest.specs.declared.walk.Way.{Way}
 use Rattle.lsys_forest.specs.declared.walk.Way.TheVariants.{Left, Right}
-use Rattle.lsys_forest.specs.Slots.{footing_at, rank_at, link_at, mate_at}
+use Rattle.lsys_forest.specs.Slots.{footing_at, rank_at, link_at, footing_mate}
 use Rattle.lsys_forest.specs.Nodes.{Node, Nodes}
 use Rattle.lsys_forest.specs.Rows.{oriented, level_nodes}
 use Rattle.lsys_forest.specs.Stocks.{Stock, nodes_of}
@@ -23,7 +23,7 @@ pub record Joins (old new : List Footing) (last : Option ℕ) (kid : ℕ) : Type
       → (link_at Right new k ≡ Some kid) × (link_at Left new k ≡ link_at Left old k)
   pub others : (k : ℕ) → k ≢ kid → (last ≡ Some k → ⊥) → footing_at new k ≡ footing_at old k
   pub ranks : (k : ℕ) → rank_at new k ≡ rank_at old k
-  pub mates : (k : ℕ) → mate_at new k ≡ mate_at old k
+  pub mates : (k : ℕ) → footing_mate new k ≡ footing_mate old k
 
 -- These nodes were linked as a row, the first of them after the last one before them, if there is one: so a row that ended there
 -- goes on to the last of these.
@@ -37,7 +37,7 @@ pub record LinksRow (old new : List Footing) (before : Option ℕ) (kids : List 
   pub others : (k : ℕ) → (In k kids → ⊥) → (before ≡ Some k → ⊥)
       → footing_at new k ≡ footing_at old k
   pub ranks : (k : ℕ) → rank_at new k ≡ rank_at old k
-  pub mates : (k : ℕ) → mate_at new k ≡ mate_at old k
+  pub mates : (k : ℕ) → footing_mate new k ≡ footing_mate old k
 
 -- each rank stays that is not at one of these numbers
 abbrev pub KeepsOtherRanks : List ℕ → List Footing → List Footing → Type 0
@@ -49,7 +49,7 @@ KeepsLinks old new = (way : Way) (k : ℕ) → link_at way new k ≡ link_at way
 
 -- each mate stays
 abbrev pub KeepsMates : List Footing → List Footing → Type 0
-KeepsMates old new = (k : ℕ) → mate_at new k ≡ mate_at old k
+KeepsMates old new = (k : ℕ) → footing_mate new k ≡ footing_mate old k
 
 -- something is at this number, if it is one, and it is not among these
 abbrev pub IsApartFrom : {X : Type 0} → (ℕ → Option X) → List ℕ → Option ℕ → Type 0

@@ -40,8 +40,8 @@ abbrev pub link_at : Way → List Footing → ℕ → Option ℕ
 link_at way footings k = link_in way (footing_at footings k)
 
 -- the mate that a footing names
-abbrev pub mate_at : List Footing → ℕ → Option ℕ
-mate_at footings k = (footing_at footings k).mate
+abbrev pub footing_mate : List Footing → ℕ → Option ℕ
+footing_mate footings k = (footing_at footings k).mate
 
 abbrev pub rank_set : ℕ → Footing → Footing
 rank_set x f = record f { rank = x }

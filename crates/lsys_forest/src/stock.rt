@@ -7,7 +7,7 @@ ghost use Rattle.lsys_region.specs.Rooms.{list_room};
 ghost use Rattle.lsys_forest.specs.declared.node.Stored.{Stored};
 ghost use Rattle.lsys_forest.specs.declared.walk.Way.{Way};
 ghost use Rattle.lsys_forest.specs.Shelves.{IsOwner, OnShelf};
-ghost use Rattle.lsys_forest.specs.Slots.{slot_at, footing_at, rank_at, link_at, mate_at, mate_set, live_slots};
+ghost use Rattle.lsys_forest.specs.Slots.{slot_at, footing_at, rank_at, link_at, footing_mate, mate_set, live_slots};
 ghost use Rattle.lsys_forest.specs.Answers.{old_answer, Lives, Releases};
 ghost use Rattle.lsys_forest.specs.Groves.{HasFew, IsRooted};
 ghost use Rattle.lsys_forest.specs.Nodes.{Node, root_node, with_node, ForNode};
@@ -210,7 +210,7 @@ impl<A: Drop> Parts<A> {
 
     /// The mate that stands at a node; none where it doesn't live.
     pub(crate) fn mate(&self, node: NodeId) -> Option<NodeId>
-        ensures { result ≡ mate_at self.now.footings node }
+        ensures { result ≡ footing_mate self.now.footings node }
     {
         self.table.mate(node)
     }

@@ -3,7 +3,7 @@ ghost use Rattle.std.specs.Prelude.{◌≡◌, ◌↔◌, IsTrue, ◌+◌, ◌<�
 ghost use Rattle.slab.specs.Slab.{Slab, get};
 ghost use Rattle.lsys_forest.specs.Shelves.{run_at};
 ghost use Rattle.lsys_forest.specs.declared.node.NodeEntry.{NodeEntry};
-ghost use Rattle.lsys_forest.specs.Slots.{slot_at, footing_at, rank_at, link_at, mate_at, live_slots, run_after, kind_set, key_set, answer_set, answer_before, node_in, node_set, params_set, kids_set, footing_set, rank_set, right_set, links_set, mate_set, PutsEntry, HasEntryAt};
+ghost use Rattle.lsys_forest.specs.Slots.{slot_at, footing_at, rank_at, link_at, footing_mate, live_slots, run_after, kind_set, key_set, answer_set, answer_before, node_in, node_set, params_set, kids_set, footing_set, rank_set, right_set, links_set, mate_set, PutsEntry, HasEntryAt};
 ghost use Rattle.lsys_forest.specs.SlotChanges.{KeepsOtherFootings, empty_table, param_run_at, kid_run_at, param_run_or, kid_run_or, entry_params_or, entry_kids_or, Vacates, ChangesSlot, ChangesParamRun, ChangesKidRun, ChangesFooting, FootingBecomes, ChangesEntry};
 ghost use Rattle.lsys_forest.specs.Regions.{HasNoVacantRuns};
 
@@ -144,7 +144,7 @@ impl<A: Drop> NodeTable<A> {
 
     /// The mate that stands at a node; none where it doesn't live.
     pub(crate) fn mate(&self, number: NodeId) -> Option<NodeId>
-        ensures { result ≡ mate_at self.now.footings number }
+        ensures { result ≡ footing_mate self.now.footings number }
     {
         match self.nodes.get(number.0 as usize) {
             Some(entry) => entry.footing.mate,

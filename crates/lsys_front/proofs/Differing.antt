@@ -13,7 +13,7 @@ use Rattle.lsys_children.specs.Matches.{nodes_without}
 use Rattle.lsys_children.specs.Children.{ToldNodes, KeepsChildren}
 use Rattle.lsys_match.specs.Kept.{Kept}
 use Rattle.lsys_reads.specs.declared.seat.Seat.{Seat}
-use Rattle.lsys_reads.specs.Standings.{seen_at}
+use Rattle.lsys_forest.specs.Pairs.{seen_at}
 use Rattle.lsys_children.specs.Nexts.{Successors}
 use Rattle.lsys_children.specs.Renewals.{KeepsDeeper}
 use Rattle.lsys_children.proofs.Above.{upper_nodes}

@@ -17,7 +17,7 @@ use Rattle.lsys_laws.specs.Groups.{has_same_rules}
 use Rattle.lsys_reads.specs.declared.seat.Seat.{Seat}
 use Rattle.lsys_reads.specs.Neighbours.{Neighbours, neighbours_on, neighbours_in}
 use Rattle.lsys_reads.specs.Seats.{neighbours_at}
-use Rattle.lsys_reads.specs.Standings.{seen_at}
+use Rattle.lsys_forest.specs.Pairs.{seen_at}
 use Rattle.lsys_reads.proofs.LevelLemmas.{got_in, place_in, get_index, index_less, symbol_at}
 use Rattle.lsys_front.specs.Found.{LevelChanges}
 use Rattle.lsys_front.specs.Finds.{IsTurned, IsBeside}

@@ -11,7 +11,7 @@ use Rattle.lsys_level.specs.Spots.{Seen, Push, Pop, Module, Spotted}
 use Rattle.lsys_forest.specs.Rows.{spot_in, level_spots}
 use Rattle.lsys_reads.specs.Levels.{IsAnsweredRight, AnsweredAt, level_of, answer_at}
 use Rattle.lsys_reads.specs.Meant.{IsNeeded}
-use Rattle.lsys_reads.specs.Standings.{seen_at}
+use Rattle.lsys_forest.specs.Pairs.{seen_at}
 use Rattle.lsys_reads.proofs.LevelLemmas.{got_in}
 use Rattle.lsys_front.specs.Repairs.{Repair, now, root, rest, are, SteppingSpots}
 use Rattle.lsys_front.specs.Candidates.{AsksNow, IsCandidateNode}

@@ -12,7 +12,7 @@ use Rattle.lsys_forest.specs.Nodes.{Node}
 use Rattle.lsys_forest.specs.Groves.{changes_in}
 use Rattle.lsys_forest.specs.Rows.{spot_in, level_spots}
 use Rattle.lsys_forest.proofs.RowLemmas.{level_depth}
-use Rattle.lsys_reads.specs.Standings.{seen_at}
+use Rattle.lsys_forest.specs.Pairs.{seen_at}
 use Rattle.lsys_reads.proofs.LevelLemmas.{got_in, place_in}
 use Rattle.lsys_reads.specs.Lineages.{names}
 use Rattle.lsys_reads.specs.Levels.{level_of, AnsweredAt, answer_at}

@@ -32,7 +32,7 @@ use Rattle.lsys_forest.proofs.RowLemmas.{In_append}
 use Rattle.lsys_reads.specs.Lineages.{names}
 use Rattle.lsys_reads.specs.Levels.{IsRight, IsKeptFor, IsAnsweredRight, answer_at, tags_named, tags_read, HasRead}
 use Rattle.lsys_reads.specs.Meant.{level_to, IsCandidate}
-use Rattle.lsys_reads.specs.Standings.{seen_at}
+use Rattle.lsys_forest.specs.Pairs.{seen_at}
 use Rattle.lsys_reads.proofs.LevelLemmas.{named_by_number, lineage_named, symbol_at, got_in, place_in}
 use Rattle.lsys_front.specs.Repairs.{Repair, now, rest, root, were, are, SteppingSpots}
 use Rattle.lsys_front.specs.Candidates.{IsUndisturbed, MayDiffer, was_last, moved, read_moved, other_rules, IsCandidateNode}

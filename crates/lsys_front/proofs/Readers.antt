@@ -17,7 +17,7 @@ use Rattle.lsys_forest.specs.Groves.{IsRooted, changes_in}
 use Rattle.lsys_forest.specs.Rows.{spot_in, level_nodes, level_spots}
 use Rattle.lsys_forest.proofs.RowLemmas.{level_depth}
 use Rattle.lsys_reads.specs.Levels.{IsRight, IsAnsweredRight, answer_at, tags_read, HasRead}
-use Rattle.lsys_reads.specs.Standings.{seen_at}
+use Rattle.lsys_forest.specs.Pairs.{seen_at}
 use Rattle.lsys_reads.proofs.LevelLemmas.{got_in}
 use Rattle.lsys_front.specs.Repairs.{Repair, rest, root, were}
 use Rattle.lsys_front.specs.Found.{IsRightAnswer, AreAnswersRight}

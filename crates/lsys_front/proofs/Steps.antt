@@ -18,7 +18,7 @@ use Rattle.lsys_children.specs.declared.child.Child.{Child}
 use Rattle.lsys_children.specs.Matches.{has_number, node_number, number_of, nodes_without}
 use Rattle.lsys_children.specs.Children.{born, renewed, seen_in_node, kind_in_node, IsNewNode, HasTurned, KeepsChildren}
 use Rattle.lsys_reads.specs.Lineages.{kin_of, kins, names}
-use Rattle.lsys_reads.specs.Standings.{seen_at}
+use Rattle.lsys_forest.specs.Pairs.{seen_at}
 use Rattle.lsys_children.specs.Nexts.{Successors, node_symbol}
 use Rattle.lsys_children.specs.Renewals.{Renewal, stayed, relisted, turned, came, AreRenewals, KeepsDeeper}
 use Rattle.lsys_children.proofs.Nexts.{lineage_at}

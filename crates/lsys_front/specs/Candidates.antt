@@ -7,7 +7,8 @@ use Rattle.lsys_level.specs.Spots.{Module}
 use Rattle.lsys_laws.specs.Groups.{has_same_rules}
 use Rattle.lsys_forest.specs.Nodes.{Nodes}
 use Rattle.lsys_reads.specs.Neighbours.{neighbours_on}
-use Rattle.lsys_reads.specs.Standings.{seen_at, StandsAsBefore}
+use Rattle.lsys_forest.specs.Pairs.{seen_at}
+use Rattle.lsys_reads.specs.Standings.{StandsAsBefore}
 use Rattle.lsys_reads.specs.Lineages.{names}
 use Rattle.lsys_reads.specs.Levels.{HasRead}
 use Rattle.lsys_reads.specs.Meant.{IsCandidate}

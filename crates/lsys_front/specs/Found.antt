@@ -15,7 +15,8 @@ use Rattle.lsys_reads.specs.Levels.{HasRead, AnsweredAt, answer_at}
 use Rattle.lsys_reads.specs.declared.seat.Seat.{Seat}
 use Rattle.lsys_reads.specs.Neighbours.{neighbours_in, IsOnLevel}
 use Rattle.lsys_reads.specs.Seats.{neighbours_at, HasSeat}
-use Rattle.lsys_reads.specs.Standings.{seen_at, AreSeated}
+use Rattle.lsys_forest.specs.Pairs.{seen_at}
+use Rattle.lsys_reads.specs.Standings.{AreSeated}
 use Rattle.lsys_front.specs.Finds.{IsTurned, IsBeside, IsReader}
 use Rattle.lsys_front.specs.Repairs.{Repair, now, rest, root, were, are, SteppingSpots}
 

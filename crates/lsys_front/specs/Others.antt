@@ -13,7 +13,7 @@ use Rattle.lsys_level.specs.Spots.{Module}
 use Rattle.lsys_bodies.specs.declared.rule.Rule.{Rule}
 use Rattle.lsys_bodies.specs.Views.{rule_of, as_production}
 use Rattle.lsys_forest.specs.Nodes.{Nodes}
-use Rattle.lsys_reads.specs.Standings.{seen_at}
+use Rattle.lsys_forest.specs.Pairs.{seen_at}
 
 -- The modules of this name and so many parameters have the same bodies on level t; the seed is the same, if one has a weight; and
 -- contexts pass over the same modules, if one has a context. No lineage is looked at.

@@ -129,8 +129,8 @@ fn lose_answer<A: Kept>(
         return;
     }
     forest.set_answer(node, None);
-    push_in_room(bare, node);
-    push_in_room(dropped, Tag(node.0));
+    bare.push_reserved(node);
+    dropped.push_reserved(Tag(node.0));
 }
 
 /// Whether a node keeps an answer, and has no question.
@@ -139,16 +139,4 @@ fn is_idle<A: Kept>(forest: &Forest<A>, system: &System, level: u32, node: NodeI
     ensures { IsTrue result ↔ IsIdle system.now level (now_of forest.now) node }
 {
     forest.answer(node).is_some() && !has_question(system, level, forest, node)
-}
-
-/// Adds an item to a list that has room for it.
-fn push_in_room<T: Drop>(list: &mut Vec<T>, item: T)
-    requires { vec_len list.old < vec_capacity list.old }
-    ensures pushed { list.new.items ≡ list.old.items ++ item ∷ [] }
-    ensures capacity { vec_capacity list.old ≤ vec_capacity list.new }
-{
-    match list.push(item) {
-        Ok(()) => {}
-        Err(_) => unreachable!(),
-    }
 }

@@ -4,8 +4,7 @@ ghost use Rattle.std.specs.Option.{option_map};
 ghost use Rattle.lsys_module.specs.Views.{module_name, string_of};
 ghost use Rattle.lsys_growth.specs.Counting.{count_of_what, is_counted, AddsAlone, AddsString, AddsTemplates, count_alone, count_in_templates};
 
-use crate::letters::same_name;
-use lsys_bodies::Template;
+use lsys_bodies::{Template, same_name};
 use lsys_module::Symbol;
 use lsys_text::Name;
 use std::alloc::AllocError;

@@ -1,12 +1,12 @@
 //! The letters of a system.
 ghost use Rattle.std.specs.Prelude.{◌≡◌, ◌≤◌, ◌∷◌, [], IfOk, length, map};
-ghost use Rattle.lsys_spec.specs.Systems.{comes_before, same_name};
+ghost use Rattle.lsys_spec.specs.Systems.{comes_before};
 ghost use Rattle.lsys_module.specs.Views.{module_name, string_of};
 ghost use Rattle.lsys_bodies.specs.Views.{rule_of};
 ghost use Rattle.lsys_growth.specs.Growth.{among, letters, most_letters, module_names, rule_names};
 ghost use Rattle.lsys_growth.specs.Letters.{AreLettersOf, letter_place, PutsNames, letter_before, names_in_rules, names_in_templates};
 
-use lsys_bodies::{Rule, Template};
+use lsys_bodies::{Rule, Template, same_name};
 use lsys_module::Symbol;
 use lsys_rules::System;
 use lsys_text::Name;
@@ -101,12 +101,6 @@ fn is_among(letters: &[Name], name: Name) -> bool
     ensures { result ≡ among (map module_name letters.now) (module_name name) }
 {
     letters.iter().any(|other| same_name(*other, name))
-}
-
-pub(crate) fn same_name(one: Name, other: Name) -> bool
-    ensures { result ≡ same_name (module_name one) (module_name other) }
-{
-    one == other
 }
 
 // How many letters stand before the first that comes after a name.

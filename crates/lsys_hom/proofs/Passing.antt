@@ -9,7 +9,7 @@ use Rattle.lsys_spec.specs.Levels.{plain}
 use Rattle.lsys_spec.specs.Images.{ImageLimit, within_image}
 use Rattle.lsys_level.specs.Spots.{Seen, Push, Pop, Module, Spotted, spots_at, with_lineage}
 use Rattle.lsys_hom.specs.Coming.{Coming, coming_from, modules_behind, symbol_image, coming_with}
-use Rattle.lsys_hom.specs.Ways.{at, bare_level, rest_from}
+use Rattle.lsys_hom.specs.Ways.{at, bare_level, symbols_from}
 
 -- what stands at a place, and what stands after it
 pub record Stands (x : List Spotted) (p : ℕ) (v : Seen) : Type 0 where
@@ -62,6 +62,6 @@ none_behind (s ∷ x) (suc p) e = none_behind x p (omega (arith, e))
 -- the spot to the right stands before what is left
 pub right_rest : {S : Type 0} (level_of place_of : S → ℕ) (levels : List (List Spotted)) (t p : ℕ) (spot : Option S)
     → MatchOption spot (p + 1 ≡ length (spots_at levels t)) (λ s. (level_of s ≡ t) × (place_of s ≡ p + 1) × (place_of s < length (spots_at levels t)))
-    → rest_from levels (at level_of place_of spot) ≡ drop (p + 1) (spots_at levels t)
+    → symbols_from levels (at level_of place_of spot) ≡ drop (p + 1) (spots_at levels t)
 right_rest level_of place_of levels t p None e = none_behind (spots_at levels t) (p + 1) e
 right_rest level_of place_of levels t p (Some s) h = ap₂ (λ u q. drop q (spots_at levels u)) h.0 h.1

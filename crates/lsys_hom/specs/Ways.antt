@@ -29,9 +29,9 @@ abbrev pub at : {S : Type 0} → (S → ℕ) → (S → ℕ) → Option S → Op
 at level_of place_of spot = option_map (λ s. (level_of s, place_of s)) spot
 
 -- the symbols from a place on; without one the level is at its end
-abbrev pub rest_from : List (List Spotted) → Option (ℕ × ℕ) → List Spotted
-rest_from levels None = []
-rest_from levels (Some (t, p)) = drop p (spots_at levels t)
+abbrev pub symbols_from : List (List Spotted) → Option (ℕ × ℕ) → List Spotted
+symbols_from levels None = []
+symbols_from levels (Some (t, p)) = drop p (spots_at levels t)
 
 pub record LevelWay : Type 0 where
   pub coming : Coming
@@ -39,7 +39,7 @@ pub record LevelWay : Type 0 where
 
 abbrev pub way_from : List Homomorphism → ℕ → ℕ → List (List Spotted) → Option (ℕ × ℕ) → LevelWay
 way_from hs n k levels place =
-    let rest = rest_from levels place in record { coming = coming_from hs n k (bare_level rest); left = length rest }
+    let rest = symbols_from levels place in record { coming = coming_from hs n k (bare_level rest); left = length rest }
 
 abbrev pub IsPlace : List (List Spotted) → Option (ℕ × ℕ) → Type 0
 IsPlace levels None = Unit {0}
@@ -48,7 +48,7 @@ IsPlace levels (Some (t, p)) = IsSpot levels t p
 -- the counts of modules and symbols so far can go on to the level's end
 pub record CanCountOn (n k : ℕ) (levels : List (List Spotted)) (spot : Option (ℕ × ℕ)) : Type 0 where
   pub place : IsPlace levels spot
-  pub modules : n + length (rest_from levels spot) < 2 ^ 32
+  pub modules : n + length (symbols_from levels spot) < 2 ^ 32
   pub symbols : k ≤ most_image_symbols
 
 -- what comes is the part, and then this
@@ -60,10 +60,10 @@ abbrev pub coming_refused : ImageRefusal → Coming
 coming_refused r = record { symbols = []; refusal = Some (refusal_of r) }
 
 -- one symbol of the level is passed; a refusal passes nothing
-abbrev pub IsPassed : LevelWay → LevelWay → Result (Option Part) ImageRefusal → Type 0
-IsPassed old new (Ok (Some part)) = (old.coming ≡ with_part part new.coming) × (new.left < old.left) × IsSoundPart part
-IsPassed old new (Ok None) = (old.coming ≡ nothing_coming) × (new ≡ old)
-IsPassed old new (Err r) = (old.coming ≡ coming_refused r) × (new ≡ old)
+abbrev pub IsSymbolPassed : LevelWay → LevelWay → Result (Option Part) ImageRefusal → Type 0
+IsSymbolPassed old new (Ok (Some part)) = (old.coming ≡ with_part part new.coming) × (new.left < old.left) × IsSoundPart part
+IsSymbolPassed old new (Ok None) = (old.coming ≡ nothing_coming) × (new ≡ old)
+IsSymbolPassed old new (Err r) = (old.coming ≡ coming_refused r) × (new ≡ old)
 
 -- symbols of the level are passed up to one whose image isn't empty
 abbrev pub IsNextPart : Coming → Coming → Result (Option Part) ImageRefusal → Type 0

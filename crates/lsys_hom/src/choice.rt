@@ -1,12 +1,11 @@
 //! Which rule a module's image is made by.
 ghost use Rattle.std.specs.Prelude.{◌≡◌};
-ghost use Rattle.lsys_spec.specs.Systems.{same_name};
 ghost use Rattle.lsys_expr.specs.Answers.{as_meant};
 ghost use Rattle.lsys_module.specs.Views.{module_name};
 ghost use Rattle.lsys_bodies.specs.Views.{homomorphism_of};
 ghost use Rattle.lsys_hom.specs.Parts.{applies, module_with, IsRuleFor};
 
-use lsys_bodies::{HomRule, SharedBody};
+use lsys_bodies::{HomRule, SharedBody, same_name};
 use lsys_expr::{Arith, holds};
 use lsys_text::Name;
 
@@ -31,18 +30,11 @@ fn applies(rule: &HomRule, name: Name, params: &[i64]) -> Result<bool, Arith>
     ensures { as_meant result ≡ applies (module_with name params.now) (homomorphism_of rule.now) }
 {
     let predecessor = rule.body.predecessor();
-    if !is_named(predecessor.name, name) || predecessor.arity() != params.len() {
+    if !same_name(predecessor.name, name) || predecessor.arity() != params.len() {
         return Ok(false);
     }
     match rule.body.condition() {
         None => Ok(true),
         Some(condition) => holds(condition, params),
     }
-}
-
-/// The two names are the same.
-fn is_named(one: Name, other: Name) -> bool
-    ensures { result ≡ same_name (module_name one) (module_name other) }
-{
-    one == other
 }

@@ -7,7 +7,7 @@ ghost use Rattle.lsys_level.specs.Spots.{spots_at, with_lineage};
 ghost use Rattle.lsys_hom.specs.Coming.{modules_behind};
 ghost use Rattle.lsys_hom.specs.Looks.{IsKeptLook};
 ghost use Rattle.lsys_hom.specs.Parts.{IsPartOf};
-ghost use Rattle.lsys_hom.specs.Ways.{IsSoundPartIfAny, IsNextPart, IsPassed, is_empty_part, coming_by};
+ghost use Rattle.lsys_hom.specs.Ways.{IsSoundPartIfAny, IsNextPart, IsSymbolPassed, is_empty_part, coming_by};
 
 use crate::look::{Glance, look_of};
 use crate::part::Part;
@@ -105,7 +105,7 @@ impl<'a, W: LevelView> Walk<'a, W> {
     ///
     /// The symbol's refusal of the image. It isn't passed.
     pub fn pass(&mut self) -> Result<Option<Part<'a>>, ImageRefusal>
-        ensures { IsPassed self.old self.new result }
+        ensures { IsSymbolPassed self.old self.new result }
     {
         let Some(spot) = self.spot else {
             return Ok(None);

@@ -1,10 +1,10 @@
 //! Questions.
-ghost use Rattle.std.specs.Prelude.{◌≡◌, ◌+◌, ◌++◌, ◌≤◌, length, option_map, IfNone, IfOk, IfSome, OnErr, OnOk};
+ghost use Rattle.std.specs.Prelude.{◌≡◌, ◌+◌, ◌++◌, ◌≤◌, [], length, option_map, IfNone, IfOk, IfSome, OnErr, OnOk};
 ghost use Rattle.lsys_laws.specs.Sessions.{IsWell};
 ghost use Rattle.lsys_spec.specs.Meaning.{most_entries};
 ghost use Rattle.lsys_level.specs.Spots.{IsSpot};
 ghost use Rattle.lsys_match.specs.Asking.{asked_level, posed_by};
-ghost use Rattle.lsys_match.specs.Asks.{IsKept, IsMadeIfAny, IsTraceFor, KeepsStore, StaysAsKept, asked_if_any, news, KeepsTrace, kept_lent};
+ghost use Rattle.lsys_match.specs.Asks.{IsKept, IsMadeIfAny, IsTraceFor, IsTracePlaced, KeepsStore, StaysAsKept, asked_if_any, news, KeepsTrace, kept_lent};
 ghost use Rattle.lsys_match.specs.Telling.{HasFittingParams, reply_answer, old_trace};
 ghost use Rattle.lsys_match.specs.AskedSpots.{AnswersAt, Scans, AnswersTo, CountsNews, IsAskedAt, IsPosedOf, KeepsStoreIfAny, MayAnswer, MayScan, ScansFor};
 
@@ -197,6 +197,9 @@ fn place(
     ensures placed { KeepsTrace store.old store.new entries.now (own.now ++ read.now) result }
     ensures refused { OnErr result (StaysAsKept store.old store.new) }
 {
+    if entries.is_empty() && own.is_empty() && read.is_empty() {
+        return Ok(place_nothing(store));
+    }
     if read.is_empty() {
         return place_list(store, entries, own);
     }
@@ -207,6 +210,13 @@ fn place(
     values.extend_from_slice(own)?;
     values.extend_from_slice(read)?;
     place_list(store, entries, &values)
+}
+
+// Keeps a trace without entries, without parameters. It takes no memory and no step.
+fn place_nothing(store: &mut AnswerStore) -> TraceRuns
+    ensures { IsTracePlaced store.old store.new result [] [] }
+{
+    store.place(&[], &[])
 }
 
 // Keeps a trace with these parameters.

@@ -21,7 +21,7 @@ use Rattle.lsys_reads.specs.Lineages.{kin_of, names}
 use Rattle.lsys_reads.specs.Levels.{answer_at}
 use Rattle.lsys_reads.specs.Neighbours.{level_around}
 use Rattle.lsys_reads.specs.Seats.{HasSeat}
-use Rattle.lsys_reads.specs.Standings.{seen_at}
+use Rattle.lsys_forest.specs.Pairs.{seen_at}
 use Rattle.lsys_reads.proofs.LevelLemmas.{got_in, place_in}
 use Rattle.lsys_children.proofs.Depths.{on_level}
 use Rattle.lsys_front.specs.Repairs.{were}

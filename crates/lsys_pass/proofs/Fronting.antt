@@ -11,7 +11,7 @@ use Rattle.lsys_forest.specs.Rows.{level_nodes, level_spots}
 use Rattle.lsys_forest.proofs.RowLemmas.{In_append}
 use Rattle.lsys_reads.specs.Levels.{answer_at}
 use Rattle.lsys_reads.specs.declared.seat.Seat.{Seat}
-use Rattle.lsys_reads.specs.Standings.{seen_at}
+use Rattle.lsys_forest.specs.Pairs.{seen_at}
 use Rattle.lsys_front.specs.Repairs.{Repair, now, rest, were, are}
 use Rattle.lsys_front.specs.Turned.{AreTurnedBy}
 use Rattle.lsys_front.proofs.TurnedLemmas.{same_turned}

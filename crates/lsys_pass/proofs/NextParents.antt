@@ -16,7 +16,7 @@ use Rattle.lsys_forest.proofs.DepthLemmas.{fits}
 use Rattle.lsys_forest.proofs.StockLemmas.{stored_of}
 use Rattle.lsys_reads.specs.Levels.{answer_at, AnsweredAt}
 use Rattle.lsys_reads.specs.Seats.{HasSeat}
-use Rattle.lsys_reads.specs.Standings.{seen_at}
+use Rattle.lsys_forest.specs.Pairs.{seen_at}
 use Rattle.lsys_children.specs.Nexts.{Successors, AreClosed, HasWanted, node_kind, wanted_in, wanted_behind}
 use Rattle.lsys_children.specs.Renewals.{KeepsDeeper}
 use Rattle.lsys_children.specs.Answers.{kept_successors}

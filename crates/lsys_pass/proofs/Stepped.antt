@@ -36,7 +36,7 @@ use Rattle.lsys_pass.proofs.Fronting.{KeepsLevel, front_stays, AreByLevel, one_h
 use Rattle.lsys_pass.proofs.Sized.{made_stays}
 use Rattle.lsys_pass.specs.Sizes.{HaveSizes, HaveSizesTo, SizesAt}
 use Rattle.lsys_reads.proofs.LevelLemmas.{place_in}
-use Rattle.lsys_reads.specs.Standings.{seen_at}
+use Rattle.lsys_forest.specs.Pairs.{seen_at}
 use Rattle.lsys_front.specs.Fronts.{IsLevelFront}
 use Rattle.lsys_forest.specs.Rows.{level_nodes, level_spots}
 use Rattle.lsys_pass.proofs.Asking.{IsSameForest, IsAsked, asked, at, made_now, same_sound, same_nodes, same_spots, sound_now}

@@ -22,7 +22,7 @@ use Rattle.lsys_reads.specs.Meant.{levels_meant, meant_to}
 use Rattle.lsys_reads.specs.declared.seat.Seat.{Seat}
 use Rattle.lsys_reads.specs.Neighbours.{neighbours_on}
 use Rattle.lsys_reads.specs.Seats.{is_marked, SameSeats, KeepsSeats}
-use Rattle.lsys_reads.specs.Standings.{seen_at}
+use Rattle.lsys_forest.specs.Pairs.{seen_at}
 use Rattle.lsys_front.specs.Repairs.{SteppingSpots, were}
 use Rattle.lsys_front.specs.Candidates.{AsksOn}
 use Rattle.lsys_front.proofs.Spots.{is_in}

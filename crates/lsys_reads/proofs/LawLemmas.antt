@@ -17,7 +17,8 @@ use Rattle.lsys_forest.specs.Mates.{seen_level}
 use Rattle.lsys_reads.specs.declared.seat.Seat.{Seat}
 use Rattle.lsys_reads.specs.Neighbours.{numbered_level, mate_on, neighbours_on}
 use Rattle.lsys_reads.specs.Seats.{neighbours_at}
-use Rattle.lsys_reads.specs.Standings.{seen_at, seating_of, AreOldAndNew, AreSeated, StandsAsBefore}
+use Rattle.lsys_forest.specs.Pairs.{seen_at}
+use Rattle.lsys_reads.specs.Standings.{seating_of, AreOldAndNew, AreSeated, StandsAsBefore}
 use Rattle.lsys_reads.proofs.LevelLemmas.{place_in, get_index, index_less, lineage_named, named_by_number, symbol_at, mates_ahead, mates_behind, mates_none}
 
 seen_with : (l : List ℕ) (e : Seen) → seen_by (with_lineage l e) ≡ e

@@ -3,21 +3,18 @@ use Rattle.std.specs.Prelude.{◌≡◌, ℕ, List, Some, slice_get}
 use Rattle.lsys_spec.specs.Rows.{In}
 use Rattle.lsys_spec.specs.Systems.{System}
 use Rattle.lsys_spec.specs.Levels.{LevelSymbol, IsLevel}
-use Rattle.lsys_level.specs.Spots.{Seen, named}
+use Rattle.lsys_level.specs.Spots.{named}
 use Rattle.lsys_laws.specs.Passes.{AreMeantTo}
 use Rattle.lsys_laws.specs.Seats.{Seating}
 use Rattle.lsys_forest.specs.Nodes.{Nodes}
 use Rattle.lsys_forest.specs.Rows.{index_in, spot_in}
 use Rattle.lsys_forest.specs.Mates.{seen_level}
+use Rattle.lsys_forest.specs.Pairs.{seen_at}
 use Rattle.lsys_reads.specs.declared.seat.Seat.{Seat}
 use Rattle.lsys_reads.specs.Neighbours.{Neighbours, mate_on, neighbours_on}
 use Rattle.lsys_reads.specs.Seats.{neighbours_at}
 
 module _ {A : Type 0} where
-  -- what is seen of a node
-  abbrev pub seen_at : Nodes A → ℕ → Seen
-  seen_at m k = (spot_in k (m k)).seen
-
   -- these nodes as a level, where a naming tells their lineages, with the mates of their symbols
   abbrev pub seating_of : (ℕ → List ℕ) → Nodes A → List ℕ → Seating
   seating_of naming m xs = record {

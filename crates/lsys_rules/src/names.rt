@@ -1,9 +1,10 @@
 //! Names among names, and the order of words.
 ghost use Rattle.std.specs.Prelude.{◌≡◌, map};
 ghost use Rattle.lsys_spec.specs.Meaning.{ignores};
-ghost use Rattle.lsys_spec.specs.Systems.{comes_before, same_name};
+ghost use Rattle.lsys_spec.specs.Systems.{comes_before};
 ghost use Rattle.lsys_module.specs.Views.{module_name};
 
+use lsys_bodies::same_name;
 use lsys_text::{Name, Word};
 
 // Whether a name is among these.
@@ -11,13 +12,6 @@ pub(crate) fn is_among(names: &[Name], name: Name) -> bool
     ensures { result ≡ ignores (map module_name names.now) (module_name name) }
 {
     names.iter().any(|other| same_name(*other, name))
-}
-
-// Whether two names are the same.
-pub(crate) fn same_name(one: Name, other: Name) -> bool
-    ensures { result ≡ same_name (module_name one) (module_name other) }
-{
-    one == other
 }
 
 // Whether a word comes before another one in the order of their bytes.

@@ -18,10 +18,9 @@ ghost use Rattle.lsys_rules.specs.WrittenCommands.{rule_place};
 use crate::faults::{Cause, Fault};
 use crate::labelled::{has_hom_rule, has_rule};
 use crate::limits::{MOST_RULES, MOST_TABLES};
-use crate::names::same_name;
 use crate::rule_table::is_table;
 use crate::system::System;
-use lsys_bodies::{FormalNames, HomRule, Rule, first_many, unknown_name};
+use lsys_bodies::{FormalNames, HomRule, Rule, first_many, same_name, unknown_name};
 use lsys_reading::{LabeledRule, RuleLine};
 use lsys_text::{Name, Token, Word};
 

@@ -23,7 +23,7 @@ IsReadAs line None = is_passed_over line ≡ true
 IsReadAs line (Some found) = AreTokensOf line found
 
 -- likewise, and it isn't too long
-pub record IsRead (line : List ℕ) (found : Option (List Token)) : Type 0 where
+pub record IsLineTaken (line : List ℕ) (found : Option (List Token)) : Type 0 where
   pub short : length line ≤ most_line_bytes
   pub tokens : IsReadAs line found
 

@@ -131,13 +131,13 @@ IsRequest s bare (Err e) = (limit : ℕ) → bare_reply limit s bare ≡ refused
 -- 3. its steps
 
 -- the line isn't refused at its first token: it begins with the word of a command
-abbrev pub BeginsCommand : List ℕ → Type 0
-BeginsCommand bare = (ts : List syntax.Token) → tokens bare ≡ Ok ts → verdict (map (λ (t : syntax.Token). t.kind) ts) ≢ stops 0
+abbrev pub HasCommandWord : List ℕ → Type 0
+HasCommandWord bare = (ts : List syntax.Token) → tokens bare ≡ Ok ts → verdict (map (λ (t : syntax.Token). t.kind) ts) ≢ stops 0
 
 -- the command that the line's tokens spell, or why they spell none
 abbrev pub IsCommandIn : List ℕ → Result CommandLine Refusal → Type 0
 IsCommandIn bare (Ok c) = (tokens bare ≡ Ok (map token_of c.tokens)) × (verdict (kind_row c.tokens) ≡ sentence (command_of c.tokens)) × (c.bytes ≡ length bare)
-IsCommandIn bare (Err refusals.Memory) = BeginsCommand bare
+IsCommandIn bare (Err refusals.Memory) = HasCommandWord bare
 IsCommandIn bare (Err e) = (limit : ℕ) (s : spec.System) → tokens_reply limit s (length bare) (tokens bare) ≡ refused s (refusal_text e)
 
 -- what a command asks that nothing refuses, or the first refusal

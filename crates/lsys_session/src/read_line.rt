@@ -20,13 +20,13 @@ pub struct ReadLine<'a> {
 
 impl<'a> Model for ReadLine<'a> {
     ghost use Rattle.std.specs.Prelude.{ℕ, List, option_map};
-    ghost use Rattle.lsys_session.specs.ReadLines.{IsRead};
+    ghost use Rattle.lsys_session.specs.ReadLines.{IsLineTaken};
 
     ghost Value = { List ℕ };
 
     ghost view = { λ l. l.bytes.now };
 
-    ghost invariant = { λ l. IsRead l.bytes.now (option_map (λ found. found.items) l.tokens) };
+    ghost invariant = { λ l. IsLineTaken l.bytes.now (option_map (λ found. found.items) l.tokens) };
 }
 
 impl<'a> ReadLine<'a> {

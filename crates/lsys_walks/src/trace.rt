@@ -92,11 +92,27 @@ impl Trace {
         ensures refused { OnErr result (self.new ≡ self.old) }
     {
         let kept = self.values.len();
-        self.values.extend_from_slice(params)?;
+        add_values(&mut self.values, params)?;
         if self.entries.push(entry).is_err() {
             self.values.truncate(kept);
             return Err(AllocError);
         }
         Ok(())
     }
+}
+
+/// Adds values after these. Where there are none to add it does nothing.
+///
+/// # Errors
+///
+/// Out of memory. The values are then as they were.
+#[inline]
+fn add_values(list: &mut Vec<i64>, values: &[i64]) -> Result<(), AllocError>
+    ensures added { OnOk result (list.new.items ≡ list.old.items ++ values.now) }
+    ensures refused { OnErr result (list.new.items ≡ list.old.items) }
+{
+    if values.is_empty() {
+        return Ok(());
+    }
+    list.extend_from_slice(values)
 }

@@ -6,7 +6,7 @@ use Rattle.lsys_spec.specs.Rows.{In}
 use Rattle.lsys_forest.specs.declared.node.Footing.{Footing}
 use Rattle.lsys_forest.specs.declared.walk.Way.{Way}
 use Rattle.lsys_forest.specs.declared.walk.Way.TheVariants.{Left, Right}
-use Rattle.lsys_forest.specs.Slots.{SlotTable, slot_at, footing_at, rank_at, link_in, link_at, mate_at, rank_set, change_footing}
+use Rattle.lsys_forest.specs.Slots.{SlotTable, slot_at, footing_at, rank_at, link_in, link_at, footing_mate, rank_set, change_footing}
 use Rattle.lsys_forest.proofs.TableLemmas.{footing_other}
 use Rattle.lsys_forest.proofs.WalkLemmas.{get_In}
 use Rattle.lsys_forest.proofs.RankLemmas.{one_place}
@@ -56,7 +56,7 @@ loop-place-preserved g c =
         | inr ne ↦ ap (link_in way) (others k ne)
       ] ∙ was.links way k;
       mates = λ k. elim (cases_eq k kid) [
-        | inl e ↦ ap (mate_at u.footings) e ∙ ap (λ (f : Footing). f.mate) set ∙ ap (mate_at t.footings) (sym e)
+        | inl e ↦ ap (footing_mate u.footings) e ∙ ap (λ (f : Footing). f.mate) set ∙ ap (footing_mate t.footings) (sym e)
         | inr ne ↦ ap (λ (f : Footing). f.mate) (others k ne)
       ] ∙ was.mates k;
       table = c.set_rank.ensures.changed ∙ ap (λ (x : SlotTable g.row.A.Denot). record x { footings = change_footing (rank_set at) (slot_at t.slots kid) t.footings kid }) was.table ∙ ap (λ r. record c.args.table.now { footings = r }) (sym footings);

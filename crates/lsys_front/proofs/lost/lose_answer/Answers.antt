@@ -17,9 +17,9 @@ returns-then-not-is_idle-clause-only g c = loses_none c.args.forest.now
 pub returns-clause-loses : goal.returns-clause-loses
 returns-clause-loses g c =
     let n = some_of (now_of c.args.forest.now c.args.node) c.requires.lives in
-    let dropped = subst (λ (k : ℕ). c.push_in_room-2.new.list.items ≡ c.args.dropped.now.items ++ k ∷ []) c.node.view_is c.push_in_room-2.ensures.pushed in
+    let dropped = subst (λ (k : ℕ). c.push_reserved-2.new.self.items ≡ c.args.dropped.now.items ++ k ∷ []) c.node.view_is c.push_reserved-2.ensures.items in
     loses_one c.args.system.now c.args.level (now_of c.args.forest.now) (now_of c.set_answer.new.self) c.args.node n.0
-    c.args.bare.now.items c.push_in_room.new.list.items c.args.dropped.now.items c.push_in_room-2.new.list.items (c.is_idle.ensures.0 c.if-not-is_idle.false) n.1 (c.set_answer.ensures.set n.0 n.1).now c.push_in_room.ensures.pushed
+    c.args.bare.now.items c.push_reserved.new.self.items c.args.dropped.now.items c.push_reserved-2.new.self.items (c.is_idle.ensures.0 c.if-not-is_idle.false) n.1 (c.set_answer.ensures.set n.0 n.1).now c.push_reserved.ensures.items
     dropped
 
 pub returns-clause-only : goal.returns-clause-only

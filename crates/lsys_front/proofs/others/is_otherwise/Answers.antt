@@ -5,7 +5,7 @@ use Rattle.lsys_level.specs.Spots.{Module}
 use Rattle.lsys_forest.specs.Groves.{now_of}
 use Rattle.lsys_forest.specs.Rows.{spot_in}
 use Rattle.lsys_forest.proofs.SoundLemmas.{some_of}
-use Rattle.lsys_reads.specs.Standings.{seen_at}
+use Rattle.lsys_forest.specs.Pairs.{seen_at}
 use Rattle.lsys_front.specs.Others.{are_alike}
 use Rattle.lsys_front.proofs.others.is_otherwise.Goals as goal
 

@@ -6,7 +6,7 @@ use Rattle.lsys_level.specs.Spots.{Module}
 use Rattle.lsys_forest.specs.Groves.{now_of}
 use Rattle.lsys_forest.specs.Rows.{spot_in}
 use Rattle.lsys_forest.proofs.SoundLemmas.{some_of}
-use Rattle.lsys_reads.specs.Standings.{seen_at}
+use Rattle.lsys_forest.specs.Pairs.{seen_at}
 use Rattle.lsys_front.proofs.questioned.has_question.Goals as goal
 
 one_value : (v w : ModuleValue) → Module v ≡ Module w → v ≡ w

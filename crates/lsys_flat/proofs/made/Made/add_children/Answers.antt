@@ -5,7 +5,7 @@ use Rattle.lsys_spec.specs.Levels.{lineage}
 use Rattle.lsys_spec.specs.Meaning.{children}
 use Rattle.lsys_module.specs.Views.{string_of}
 use Rattle.lsys_reading.specs.Commands.{numbering_of}
-use Rattle.lsys_flat.specs.Grown.{Grown, with_children, IsGrown}
+use Rattle.lsys_flat.specs.Grown.{Grown, with_children, HasGrown}
 use Rattle.lsys_flat.proofs.Extending.{AreAdded, children_grown, one_parent, all_added, one_added, small_origin}
 use Rattle.lsys_flat.proofs.made.Made.add_children.Goals as goal
 
@@ -39,5 +39,5 @@ returns-clause-added c seed above raw parent h g k =
     let first : Grown = record c.args.self.now { parents = place + 1 } in
     let done : AreAdded g0 place c.args.key ss first c.loop-symbol.symbol-index c.loop-symbol.numbers c.loop-symbol.self = c.loop-symbol.invariant.added in
     let all : c.loop-symbol.self ≡ with_children g0 place c.args.key 0 [] ss first = all_added g0 place c.args.key c.loop-symbol.symbol-index done.before ss c.loop-symbol.self _ c.loop-symbol-test.false done.told in
-    subst (IsGrown seed above (raw ++ children g0 (lineage parent) (string_of ss))) (sym all)
+    subst (HasGrown seed above (raw ++ children g0 (lineage parent) (string_of ss))) (sym all)
     (children_grown g0 seed above place c.args.key parent (subst (λ n. slice_get above n ≡ Some parent) (sym same) g) k 0 [] ss raw first refl (let few = c.requires.few in omega (arith, few)) (one_parent seed above raw c.args.self.now (place + 1) h))

@@ -4,7 +4,7 @@ use Rattle.std.proofs.lemmas.Option.{none-some}
 use Rattle.lsys_spec.specs.Rows.{In, AreApart}
 use Rattle.lsys_forest.specs.Shelves.{run_list, run_at}
 use Rattle.lsys_forest.specs.declared.walk.Way.{Way}
-use Rattle.lsys_forest.specs.Slots.{slot_at, link_at, mate_at}
+use Rattle.lsys_forest.specs.Slots.{slot_at, link_at, footing_mate}
 use Rattle.lsys_forest.specs.Nodes.{Node, Nodes}
 use Rattle.lsys_forest.specs.Stocks.{Stock, nodes_of, changes_of, row_at, node_of}
 use Rattle.lsys_forest.specs.Groves.{IsRooted}
@@ -87,4 +87,4 @@ returns-in-Some-clause-links g c =
 
 pub returns-in-Some-clause-mates : goal.returns-in-Some-clause-mates
 returns-in-Some-clause-mates g c =
-    subst (λ (t : Stock g.row.A.Denot). (j : ℕ) → mate_at c.number.new.table.footings j ≡ mate_at t.footings j) c.self.view_is c.number.ensures.mates
+    subst (λ (t : Stock g.row.A.Denot). (j : ℕ) → footing_mate c.number.new.table.footings j ≡ footing_mate t.footings j) c.self.view_is c.number.ensures.mates

@@ -6,7 +6,7 @@ use Rattle.lsys_level.specs.Views.{seen_of}
 use Rattle.lsys_hom.specs.Coming.{coming_from, symbol_image, coming_with}
 use Rattle.lsys_hom.specs.Parts.{symbols_of, IsSoundPart}
 use Rattle.lsys_hom.specs.Refusals.{refusal_of}
-use Rattle.lsys_hom.specs.Ways.{at, bare_level, rest_from, with_part}
+use Rattle.lsys_hom.specs.Ways.{at, bare_level, symbols_from, with_part}
 use Rattle.lsys_hom.proofs.Passing.{behind, coming_passed, left_passed, right_rest}
 use Rattle.lsys_hom.proofs.walk.Walk.pass.Goals as goal
 
@@ -20,7 +20,7 @@ returns-in-Err g c =
     let v = seen_of c.sight-sight.result in
     let was : c.args.self.now.coming ≡ coming_from hs i.modules i.symbols (bare_level (drop p (spots_at levels t))) =
     ap (λ w. w.coming) (sym c.self.view_is)
-    ∙ ap (λ o. coming_from hs i.modules i.symbols (bare_level (rest_from levels (at (g.W.LevelView.level_of i.view.now) (g.W.LevelView.place_of i.view.now) o)))) c.in-Some.is in
+    ∙ ap (λ o. coming_from hs i.modules i.symbols (bare_level (symbols_from levels (at (g.W.LevelView.level_of i.view.now) (g.W.LevelView.place_of i.view.now) o)))) c.in-Some.is in
     let fault : symbol_image hs i.modules i.symbols (with_lineage [] v) ≡ Err (refusal_of c.in-Err.refusal) = search rules in
     (was ∙ coming_passed hs i.modules i.symbols (spots_at levels t) p v c.sight-sight.ensures.seen ∙ ap (λ r. coming_with r (behind hs i.modules i.symbols v (drop (p + 1) (spots_at levels t)))) fault, refl)
 
@@ -35,10 +35,10 @@ returns-in-Ok g c =
     let x = spots_at levels t in
     let was : c.args.self.now.coming ≡ coming_from hs i.modules i.symbols (bare_level (drop p x)) =
     ap (λ w. w.coming) (sym c.self.view_is)
-    ∙ ap (λ o. coming_from hs i.modules i.symbols (bare_level (rest_from levels (at (g.W.LevelView.level_of i.view.now) (g.W.LevelView.place_of i.view.now) o)))) c.in-Some.is in
+    ∙ ap (λ o. coming_from hs i.modules i.symbols (bare_level (symbols_from levels (at (g.W.LevelView.level_of i.view.now) (g.W.LevelView.place_of i.view.now) o)))) c.in-Some.is in
     let left : c.args.self.now.left ≡ length (drop p x) =
     ap (λ w. w.left) (sym c.self.view_is)
-    ∙ ap (λ o. length (rest_from levels (at (g.W.LevelView.level_of i.view.now) (g.W.LevelView.place_of i.view.now) o))) c.in-Some.is in
+    ∙ ap (λ o. length (symbols_from levels (at (g.W.LevelView.level_of i.view.now) (g.W.LevelView.place_of i.view.now) o))) c.in-Some.is in
     let rest = right_rest (g.W.LevelView.level_of i.view.now) (g.W.LevelView.place_of i.view.now) levels t p c.right-self-inside.result c.right-self-inside.ensures in
     let image : symbol_image hs i.modules i.symbols (with_lineage [] v) ≡ Ok (symbols_of c.in-Ok.part) = search rules in
     let sound : IsSoundPart c.in-Ok.part = search rules in

@@ -5,7 +5,7 @@ use Rattle.lsys_spec.specs.Levels.{plain}
 use Rattle.lsys_level.specs.Spots.{spots_at, with_lineage}
 use Rattle.lsys_level.specs.Views.{seen_of}
 use Rattle.lsys_hom.specs.Coming.{coming_from, symbol_image, coming_with}
-use Rattle.lsys_hom.specs.Ways.{at, bare_level, rest_from}
+use Rattle.lsys_hom.specs.Ways.{at, bare_level, symbols_from}
 use Rattle.lsys_hom.proofs.Passing.{behind, coming_passed, kept_image, right_rest}
 use Rattle.lsys_hom.proofs.walk.Walk.pass_kept.Goals as goal
 
@@ -21,7 +21,7 @@ returns g c =
     let x = spots_at levels t in
     let was : c.args.self.now.coming ≡ coming_from hs i.modules i.symbols (bare_level (drop p x)) =
     ap (λ w. w.coming) (sym c.self.view_is)
-    ∙ ap (λ o. coming_from hs i.modules i.symbols (bare_level (rest_from levels (at (g.W.LevelView.level_of i.view.now) (g.W.LevelView.place_of i.view.now) o)))) c.in-Some.is in
+    ∙ ap (λ o. coming_from hs i.modules i.symbols (bare_level (symbols_from levels (at (g.W.LevelView.level_of i.view.now) (g.W.LevelView.place_of i.view.now) o)))) c.in-Some.is in
     let none : i.rules.now ≡ [] = grind (arith, common_steps) in
     let image : symbol_image hs i.modules i.symbols (with_lineage [] v) ≡ Ok (y ∷ []) =
     ap (λ rs. symbol_image (map homomorphism_of rs) i.modules i.symbols (with_lineage [] v)) none ∙ kept_image i.modules i.symbols v (grind (arith, common_steps)) in
