@@ -44,3 +44,4 @@ pub mod UntouchedNodes
 pub mod Families
 pub mod Still
 pub mod Keys
+pub mod PlainSeeds

@@ -22,4 +22,4 @@ mod seeds;
 pub mod sessions;
 pub mod strings;
 
-pub use seeds::law_of_seeds;
+pub use seeds::{law_of_plain_seeds, law_of_seeds};
