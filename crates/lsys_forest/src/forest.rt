@@ -1,5 +1,5 @@
 //! The forest.
-ghost use Rattle.std.specs.Prelude.{◌↔◌, ◌≡◌, ◌≢◌, ◌⊎◌, ◌+◌, ◌-◌, ◌<◌, ◌≤◌, ◌^◌, ℕ, [], None, Some, IfOk, OnOk, IsTrue, option_copied, length, max, List, ℤ};
+ghost use Rattle.std.specs.Prelude.{◌↔◌, ◌≡◌, ◌≢◌, ◌⊎◌, ◌+◌, ◌-◌, ◌<◌, ◌≤◌, ◌^◌, ℕ, [], None, Some, IfOk, IfSome, OnOk, IsTrue, option_copied, length, max, List, ℤ};
 ghost use Rattle.lsys_module.specs.declared.symbol.Symbol.TheVariants.{Cut};
 ghost use Rattle.lsys_level.specs.Places.{seen_in, params_in};
 ghost use Rattle.lsys_level.specs.Views.{seen_of, HasFewParams};
@@ -344,6 +344,24 @@ impl<A: Kept> Forest<A> {
     {
         match self.parts.get(node) {
             Some(found) => (found.code, found.count),
+            None => unreachable!(),
+        }
+    }
+
+    /// The parent of a node, of whatever level; none of the root. It costs one step.
+    pub fn parent(&self, node: NodeId) -> Option<NodeId>
+        requires { IsLive self.now node }
+        ensures root { node ≡ self.now.root → result ≡ None }
+        ensures parent { node ≢ self.now.root
+            → ForNode (now_of self.now) node (λ n. result ≡ Some n.parent) }
+        ensures lives { IfSome result (IsLive self.now) }
+        ensures sound { IsRooted self.now.root (changes_in self.now) (now_of self.now) }
+    {
+        if node == self.root {
+            return None;
+        }
+        match self.parts.get(node) {
+            Some(found) => Some(found.parent),
             None => unreachable!(),
         }
     }
