@@ -46,12 +46,15 @@ module _ (s : System) (plain : HasNoWeights s) (seed : ℕ) where
   same_asked : (t : ℕ) (x : List LevelSymbol) (p : ℕ) (l : List ℕ) (m : ModuleValue)
       → asked r t (group s t m.name (length m.params)) x p l m ≡ asked s t (group s t m.name (length m.params)) x p l m
   same_asked t x p l m =
-      ap (λ key. choice (asking s t m) key (way x p) (items_from x (p + 1)) (group s t m.name (length m.params))) (same_key t l m)
+      ap (λ key. choice (asking s t m) key (way x p) (items_from x (p + 1)) (group s t m.name (length m.params)))
+      (same_key t l m)
 
-  same_successor : (t : ℕ) (x : List LevelSymbol) (p : ℕ) (l : List ℕ) (m : ModuleValue) → successor r t x p l m ≡ successor s t x p l m
+  same_successor : (t : ℕ) (x : List LevelSymbol) (p : ℕ) (l : List ℕ) (m : ModuleValue)
+      → successor r t x p l m ≡ successor s t x p l m
   same_successor t x p l m = ap (λ o. successor_by (group s t m.name (length m.params)) m o.answer) (same_asked t x p l m)
 
-  same_question : (t : ℕ) (x : List LevelSymbol) (p : ℕ) (l : List ℕ) (m : ModuleValue) → module_question r t x p l m ≡ module_question s t x p l m
+  same_question : (t : ℕ) (x : List LevelSymbol) (p : ℕ) (l : List ℕ) (m : ModuleValue)
+      → module_question r t x p l m ≡ module_question s t x p l m
   same_question t x p l m =
       let bs = group s t m.name (length m.params) in
       ap (λ key. record {
@@ -62,13 +65,18 @@ module _ (s : System) (plain : HasNoWeights s) (seed : ℕ) where
         trace = take (most_entries + 1) (choice (asking s t m) key (way x p) (items_from x (p + 1)) bs).entries;
       }) (same_key t l m)
 
-  same_children : (t : ℕ) (x : List LevelSymbol) (p n : ℕ) (rest : List LevelSymbol) → children_from r t x p n rest ≡ children_from s t x p n rest
+  same_children : (t : ℕ) (x : List LevelSymbol) (p n : ℕ) (rest : List LevelSymbol)
+      → children_from r t x p n rest ≡ children_from s t x p n rest
   same_children t x p n [] = refl
-  same_children t x p n (Push l ∷ rest) = ap (λ c. c and_then λ more. Ok (children s.numbering l (S.Push ∷ []) ++ more)) (same_children t x (p + 1) n rest)
-  same_children t x p n (Pop l ∷ rest) = ap (λ c. c and_then λ more. Ok (children s.numbering l (S.Pop ∷ []) ++ more)) (same_children t x (p + 1) n rest)
+  same_children t x p n (Push l ∷ rest) =
+      ap (λ c. c and_then λ more. Ok (children s.numbering l (S.Push ∷ []) ++ more)) (same_children t x (p + 1) n rest)
+  same_children t x p n (Pop l ∷ rest) =
+      ap (λ c. c and_then λ more. Ok (children s.numbering l (S.Pop ∷ []) ++ more)) (same_children t x (p + 1) n rest)
   same_children t x p n (Module l m ∷ rest) =
-      ap (λ a. fault_at t (n + 1) a and_then λ ys. children_from r t x (p + 1) (n + 1) rest and_then λ more. Ok (children s.numbering l ys ++ more)) (same_successor t x p l m)
-      ∙ ap (λ c. fault_at t (n + 1) (successor s t x p l m) and_then λ ys. c and_then λ more. Ok (children s.numbering l ys ++ more)) (same_children t x (p + 1) (n + 1) rest)
+      ap (λ a. fault_at t (n + 1) a and_then λ ys. children_from r t x (p + 1) (n + 1) rest and_then λ more.
+      Ok (children s.numbering l ys ++ more)) (same_successor t x p l m)
+      ∙ ap (λ c. fault_at t (n + 1) (successor s t x p l m) and_then λ ys. c and_then λ more.
+      Ok (children s.numbering l ys ++ more)) (same_children t x (p + 1) (n + 1) rest)
 
   same_next : (t : ℕ) (x : List LevelSymbol) → next_level r t x ≡ next_level s t x
   same_next t x = ap (λ c. c and_then λ raws. Ok (cut raws)) (same_children t x 0 0 x)
@@ -76,16 +84,21 @@ module _ (s : System) (plain : HasNoWeights s) (seed : ℕ) where
   same_levels : (limit t : ℕ) → meaning_to r limit t ≡ meaning_to s limit t
   same_levels limit zero = refl
   same_levels limit (suc t) =
-      ap (λ c. c and_then λ levels. next_level r t (last_level levels) and_then λ x. within_limit limit (suc t) (levels ++ x ∷ [])) (same_levels limit t)
+      ap (λ c. c and_then λ levels. next_level r t (last_level levels) and_then λ x. within_limit limit (suc t) (levels ++ x ∷ []))
+      (same_levels limit t)
       ∙ one_more (meaning_to s limit t)
     where
       one_more : (c : Result (List (List LevelSymbol)) LevelRefusal)
-          → (c and_then λ levels. next_level r t (last_level levels) and_then λ x. within_limit limit (suc t) (levels ++ x ∷ []))
-          ≡ (c and_then λ levels. next_level s t (last_level levels) and_then λ x. within_limit limit (suc t) (levels ++ x ∷ []))
-      one_more (Ok levels) = ap (λ n. n and_then λ x. within_limit limit (suc t) (levels ++ x ∷ [])) (same_next t (last_level levels))
+          → (c and_then λ levels. next_level r t (last_level levels) and_then λ x.
+          within_limit limit (suc t) (levels ++ x ∷ []))
+          ≡ (c and_then λ levels. next_level s t (last_level levels) and_then λ x.
+          within_limit limit (suc t) (levels ++ x ∷ []))
+      one_more (Ok levels) =
+          ap (λ n. n and_then λ x. within_limit limit (suc t) (levels ++ x ∷ [])) (same_next t (last_level levels))
       one_more (Err e) = refl
 
-  same_from : (t : ℕ) (x : List LevelSymbol) (p : ℕ) (rest : List LevelSymbol) → questions_from r t x p rest ≡ questions_from s t x p rest
+  same_from : (t : ℕ) (x : List LevelSymbol) (p : ℕ) (rest : List LevelSymbol)
+      → questions_from r t x p rest ≡ questions_from s t x p rest
   same_from t x p [] = refl
   same_from t x p (Push l ∷ rest) = same_from t x (p + 1) rest
   same_from t x p (Pop l ∷ rest) = same_from t x (p + 1) rest
@@ -101,15 +114,19 @@ module _ (s : System) (plain : HasNoWeights s) (seed : ℕ) where
       ap (λ qs. qs ++ questions_below r (t + 1) (y ∷ levels)) (same_from t x 0 x)
       ∙ ap (λ qs. questions_at s t x ++ qs) (same_below (t + 1) (y ∷ levels))
 
-  same_disturbed : (new : System) (xs ys : List (List LevelSymbol)) (q : Question) → may_differ r new xs ys q ≡ may_differ s new xs ys q
+  same_disturbed : (new : System) (xs ys : List (List LevelSymbol)) (q : Question)
+      → may_differ r new xs ys q ≡ may_differ s new xs ys q
   same_disturbed new xs ys q =
       ap (λ asked. is_candidate s new (get_or xs q.level []) (get_or ys q.level []) asked q) (same_below 0 xs)
 
-  same_visits_from : (new : System) (xs ys : List (List LevelSymbol)) → candidate_visits r new xs ys ≡ candidate_visits s new xs ys
+  same_visits_from : (new : System) (xs ys : List (List LevelSymbol))
+      → candidate_visits r new xs ys ≡ candidate_visits s new xs ys
   same_visits_from new xs ys =
-      ap (λ asked. sum_by (λ q. if is_candidate s new (get_or xs q.level []) (get_or ys q.level []) asked q then length q.trace else 0) (questions new ys)) (same_below 0 xs)
+      ap (λ asked. sum_by (λ q. if is_candidate s new (get_or xs q.level []) (get_or ys q.level []) asked q
+      then length q.trace else 0) (questions new ys)) (same_below 0 xs)
 
-  same_visits_to : (old : System) (xs ys : List (List LevelSymbol)) → candidate_visits old r xs ys ≡ candidate_visits old s xs ys
+  same_visits_to : (old : System) (xs ys : List (List LevelSymbol))
+      → candidate_visits old r xs ys ≡ candidate_visits old s xs ys
   same_visits_to old xs ys =
       ap (sum_by (λ q. if may_differ old s xs ys q then length q.trace else 0)) (same_below 0 ys)
 

@@ -9,4 +9,5 @@ pub mod Kept
 pub mod RuleNames
 pub mod OnceNames
 pub mod Accepted
+pub mod Seeded
 pub mod ShownTexts

@@ -6,17 +6,18 @@ use Rattle.lsys_spec.specs.Edits.{changed}
 use Rattle.lsys_spec.specs.Meaning.{ignores}
 use Rattle.lsys_module.specs.Views.{module_name}
 use Rattle.lsys_reading.specs.declared.parts.CommandParts.{CommandParts}
-use Rattle.lsys_reading.specs.declared.parts.CommandParts.TheVariants.{Axiom, Production, Drop, Ignore, Schedule, Homomorphism, Own, Common}
+use Rattle.lsys_reading.specs.declared.parts.CommandParts.TheVariants.{Axiom, Production, Drop, Ignore, Schedule, Seed, Homomorphism, Own, Common}
 use Rattle.lsys_rules.specs.Systems.{system_of}
 use Rattle.lsys_rules.specs.declared.parts.SystemParts.{SystemParts}
 
--- an edit of a number, of the lattice or of the numbering, or a query
+-- an edit of the depth, the version, the lattice or the numbering, or a query
 abbrev pub IsPlainEdit : CommandParts → Type 0
 IsPlainEdit Axiom = ⊥
 IsPlainEdit (Production l) = ⊥
 IsPlainEdit (Drop l) = ⊥
 IsPlainEdit (Ignore ns) = ⊥
 IsPlainEdit (Schedule ws) = ⊥
+IsPlainEdit (Seed n) = ⊥
 IsPlainEdit (Homomorphism l) = ⊥
 IsPlainEdit (Own l) = ⊥
 IsPlainEdit (Common t) = ⊥

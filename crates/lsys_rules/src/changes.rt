@@ -1,5 +1,5 @@
-//! What an edit that nothing refuses makes of a system.
-ghost use Rattle.std.specs.Prelude.{◌≡◌, ◌≤◌, ℕ, None, [], List, IfOk, OnOk, length, map};
+//! What an edit that nothing refuses makes of a system's parts.
+ghost use Rattle.std.specs.Prelude.{◌≡◌, ◌≢◌, ◌≤◌, ℕ, None, [], List, IfOk, OnOk, length, map};
 ghost use Rattle.lsys_syntax.specs.Limits.{greatest_version, most_depth_of_two};
 ghost use Rattle.lsys_syntax.specs.Checks.{axiom_many};
 ghost use Rattle.lsys_syntax.specs.Commands.{drop_rule, set_axiom, set_ignored, set_schedule, drop_own};
@@ -26,7 +26,8 @@ use lsys_reading::{CommandParts, LabeledRule, OwnNames as ReadList};
 use lsys_text::{Name, Token, Word};
 use std::alloc::{AllocError, Global};
 
-// The parts after the command that a line's tokens spell; those after a query are equal to the old ones.
+// The parts after the command that a line's tokens spell, which is none of the seed; those after a query are equal to the old
+// ones.
 pub(crate) fn changed(
     alloc: Global,
     parts: &SystemParts,
@@ -36,6 +37,7 @@ pub(crate) fn changed(
     requires forms { AreTokens (kind_row tokens.now) }
     requires line { AreOfLine tokens.now }
     requires parted { IsParted (kind_row tokens.now) edit.now }
+    requires unseeded { (n : ℕ) → edit.now ≢ CommandParts.Seed n }
     requires accepted { refusal (system_of parts.now) (command_of tokens.now) ≡ None }
     ensures { Changes parts.now (command_of tokens.now) result }
 {
@@ -52,7 +54,7 @@ pub(crate) fn changed(
     }
 }
 
-// Those after an edit of a number, of the lattice or of the numbering, or after a query.
+// Those after an edit of the depth, the version, the lattice or the numbering, or after a query.
 fn with_plain(parts: &SystemParts, edit: &CommandParts) -> Result<SystemParts, AllocError>
     requires plain { IsPlainEdit edit.now }
     requires depth { (n : ℕ) → edit.now ≡ CommandParts.Depth n → n ≤ most_depth_of_two }
@@ -61,7 +63,6 @@ fn with_plain(parts: &SystemParts, edit: &CommandParts) -> Result<SystemParts, A
 {
     let mut next = parts.clone()?;
     match edit {
-        CommandParts::Seed(seed) => next.seed = *seed,
         CommandParts::Depth(depth) => next.depth = *depth as u32,
         CommandParts::Lattice(lattice) => next.lattice = *lattice,
         CommandParts::Version(version) => next.version = *version as u32,

@@ -11,6 +11,7 @@ use crate::command_faults::fault_of;
 use crate::faults::{Cause, Fault};
 use crate::refusal::Refusal;
 use crate::system::System;
+use lsys_reading::CommandParts;
 use std::alloc::{AllocError, Global};
 
 /// The system after an edit; for a query an equal system.
@@ -28,13 +29,17 @@ pub fn apply(alloc: Global, system: &System, command: &Command) -> Result<System
     Ok(accepted(alloc, system, command)?)
 }
 
-// The system after a command that nothing refuses.
+// The system after a command that nothing refuses. With another seed it shares what the old one has.
 fn accepted(alloc: Global, system: &System, command: &Command) -> Result<System, AllocError>
     requires { refusal system.now (command_of command.now.tokens) ≡ None }
     ensures { IfOk result (λ next. next ≡ changed system.now (command_of command.now.tokens)) }
 {
-    let parts = changed(alloc, system.parts(), command.tokens(), command.parts())?;
-    System::of(alloc, parts)
+    let edit = command.parts();
+    if let CommandParts::Seed(seed) = edit {
+        return Ok(system.clone()?.with_seed(*seed));
+    }
+    let parts = changed(alloc, system.parts(), command.tokens(), edit)?;
+    System::of(alloc, parts, system.seed())
 }
 
 impl Command {

@@ -10,7 +10,7 @@ use lsys_reading::{LatticeName, Lineage};
 use lsys_text::{Name, Word};
 use std::alloc::AllocError;
 
-/// What the edits change.
+/// What the edits change, but for the seed.
 #[derive(Drop)]
 pub(crate) struct SystemParts {
     pub axiom: SymbolList,
@@ -18,7 +18,6 @@ pub(crate) struct SystemParts {
     pub homs: HomTable,
     pub schedule: Vec<Word>,
     pub ignored: Vec<Name>,
-    pub seed: u64,
     pub depth: u32,
     pub lattice: LatticeName,
     pub version: u32,
@@ -36,7 +35,6 @@ impl Clone for SystemParts {
             homs: self.homs.clone()?,
             schedule: self.schedule.clone()?,
             ignored: self.ignored.clone()?,
-            seed: self.seed,
             depth: self.depth,
             lattice: self.lattice,
             version: self.version,

@@ -1,7 +1,9 @@
 //! Systems.
 ghost use Rattle.std.specs.Prelude.{◌≡◌, ◌≤◌, IfOk, IfSome, length, map, slice_get};
 ghost use Rattle.lsys_syntax.specs.Limits.{greatest_version, most_rules};
+ghost use Rattle.lsys_syntax.specs.Commands.{set_seed};
 ghost use Rattle.lsys_spec.specs.Systems.{depth_bound, opening, tables};
+ghost use Rattle.lsys_spec.specs.Edits.{changed};
 ghost use Rattle.lsys_spec.specs.Bodies as bodies;
 ghost use Rattle.lsys_spec.specs.Bodies.{table_at};
 ghost use Rattle.lsys_spec.specs.Meaning.{ignored_by};
@@ -11,7 +13,7 @@ ghost use Rattle.lsys_reading.specs.Commands.{lattice_of, numbering_of};
 ghost use Rattle.lsys_bodies.specs.Filters.{filter_of};
 ghost use Rattle.lsys_bodies.specs.Views.{homomorphism_of, as_production};
 ghost use Rattle.lsys_rules.specs.Groups.{found_rules};
-ghost use Rattle.lsys_rules.specs.Systems.{system_of};
+ghost use Rattle.lsys_rules.specs.Systems.{seeded};
 ghost use Rattle.lsys_rules.specs.LevelGroups.{level_bodies, level_rules, rule_body, found_body, found_production};
 
 use crate::hom_table::HomTable;
@@ -37,6 +39,8 @@ use std::rc::Rc;
 #[derive(Drop)]
 pub struct System {
     parts: Rc<SystemParts>,
+    // Copies share the parts, and each has its own seed: so another seed takes no memory.
+    seed: u64,
 }
 
 impl Model for System {
@@ -49,11 +53,11 @@ impl Model for System {
     ghost coded = { Prim.hlevel (codes, expr_code) };
 
     ghost use Rattle.lsys_laws.specs.Sessions.{IsWell};
-    ghost use Rattle.lsys_rules.specs.Systems.{system_of};
+    ghost use Rattle.lsys_rules.specs.Systems.{seeded};
 
-    ghost view = { λ a. system_of a.parts.value };
+    ghost view = { λ a. seeded a.parts.value a.seed };
 
-    ghost invariant = { λ a. IsWell (system_of a.parts.value) };
+    ghost invariant = { λ a. IsWell (seeded a.parts.value a.seed) };
 }
 
 impl System {
@@ -74,29 +78,29 @@ impl System {
             homs: HomTable::new(alloc)?,
             schedule,
             ignored: Vec::new(alloc),
-            seed: 0,
             depth: 0,
             lattice: LatticeName::Square,
             version: 1,
             numbering: Lineage::Places,
             own: OwnTable::new(alloc)?,
         };
-        System::of(alloc, parts)
+        System::of(alloc, parts, 0)
     }
 
-    // The system with these parts.
-    pub(crate) fn of(alloc: Global, parts: SystemParts) -> Result<System, AllocError>
-        requires { IsWell (system_of parts) }
-        ensures { IfOk result (λ s. s ≡ system_of parts) }
+    // The system with these parts and this seed.
+    pub(crate) fn of(alloc: Global, parts: SystemParts, seed: u64) -> Result<System, AllocError>
+        requires { IsWell (seeded parts seed) }
+        ensures { IfOk result (λ s. s ≡ seeded parts seed) }
     {
         Ok(System {
             parts: Rc::new(alloc, parts)?,
+            seed,
         })
     }
 
     // Its parts.
     pub(crate) fn parts(&self) -> &SystemParts
-        ensures parts { system_of result.now ≡ self.now }
+        ensures parts { seeded result.now self.now.seed ≡ self.now }
         ensures well { IsWell self.now }
     {
         &self.parts
@@ -199,7 +203,17 @@ impl System {
     pub fn seed(&self) -> u64
         ensures { result ≡ self.now.seed }
     {
-        self.parts.seed
+        self.seed
+    }
+
+    /// The system with another seed, as the command `seed` makes it. It takes no memory.
+    pub fn with_seed(self, seed: u64) -> System
+        ensures { result ≡ changed self (set_seed seed) }
+    {
+        System {
+            parts: self.parts,
+            seed,
+        }
     }
 
     /// The number of the last level: at most 64 in version 1, and 256 in version 2.
@@ -258,6 +272,7 @@ impl Clone for System {
     fn clone(&self) -> Result<System, AllocError> {
         Ok(System {
             parts: self.parts.clone()?,
+            seed: self.seed,
         })
     }
 }
