@@ -148,11 +148,45 @@ mutual
       ∙ read-expr e (in_parens k) (RightParen ∷ ts)
       ∙ ap (λ s. run s ts) (expr_left (λ s. step s RightParen) closing (λ a j. refl) e (in_parens k))
 
+-- After a whole expression an operand was read.
+abbrev pub Has : ExpressionState → Type 0
+Has s = (a : Atom) × (k : InUnary) × (s ≡ Have a k)
+
+has-unary : (u : Unary) (k : InUnary) → Has (leave_unary u k)
+has-unary (negated u) k = has-unary u (negating k)
+has-unary (inverted u) k = has-unary u (inverting k)
+has-unary (only_atom a) k = (a, k, refl)
+has-unary (raised a u) k = has-unary u (raising a k)
+
+has-term : (t : Term) (k : InSum) → Has (leave_term t k)
+has-term (only_unary u) k = has-unary u (in_term (first_unary k))
+has-term (product t op u) k = has-unary u (in_term (next_unary t op k))
+
+has-sum : (s : Sum) (k : InRel) → Has (leave_sum s k)
+has-sum (only_term t) k = has-term t (first_term k)
+has-sum (total s op t) k = has-term t (next_term s op k)
+
+has-rel : (r : Rel) (k : InAnd) → Has (leave_rel r k)
+has-rel (only_sum s) k = has-sum s (first_sum k)
+has-rel (compare l op s) k = has-sum s (second_sum l op k)
+
+has-and : (a : And) (k : InExpr) → Has (leave_and a k)
+has-and (only_rel r) k = has-rel r (first_rel k)
+has-and (and a r) k = has-rel r (next_rel a k)
+
+pub has-expr : (e : Expr) (k : Around) → Has (leave_expr e k)
+has-expr (only_and a) k = has-and a (first_and k)
+has-expr (or e a) k = has-and a (next_and e k)
+
+-- the state after a whole expression, and what the end of the tokens makes of it
+pub run-whole : (e : Expr) → run (start_expr no_parens) (expr_kinds e) ≡ leave_expr e no_parens
+run-whole e = ap (run (start_expr no_parens)) (sym (append-nil (expr_kinds e))) ∙ read-expr e no_parens []
+
+pub end-whole : (e : Expr) → end_step (leave_expr e no_parens) ≡ Done e
+end-whole e = expr_left end_step other (λ a j. refl) e no_parens
+
 pub parse-kinds : (e : Expr) → parse_expr (expr_kinds e) ≡ Some e
-parse-kinds e =
-    let whole : run (start_expr no_parens) (expr_kinds e) ≡ leave_expr e no_parens =
-    ap (run (start_expr no_parens)) (sym (append-nil (expr_kinds e))) ∙ read-expr e no_parens [] in
-    ap (λ s. finished (end_step s)) whole ∙ ap finished (expr_left end_step other (λ a j. refl) e no_parens)
+parse-kinds e = ap (λ s. finished (end_step s)) (run-whole e) ∙ ap finished (end-whole e)
 
 -- after a whole expression, a token that can't go on with it ends it
 pub other-ends : (t : Kind) → what_follows t ≡ expr_step other → (e : Expr) → step (leave_expr e no_parens) t ≡ Done e

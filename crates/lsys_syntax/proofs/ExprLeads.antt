@@ -1,5 +1,5 @@
 -- An expression within a rule: its tokens lead from the machine's start to its end, where its nesting is within the bound.
-use Rattle.std.proofs.Common.{◌≡◌, ℕ, ◌≤◌, ◌^◌, List, [], ◌∷◌, ◌++◌, map, refl, ap, ◌∙◌, sym, subst, append-nil, arith, lt-ltb}
+use Rattle.std.proofs.Common.{◌≡◌, ℕ, ◌≤◌, ◌^◌, List, [], ◌∷◌, ◌++◌, map, refl, ap, ◌∙◌, sym, subst, arith, lt-ltb}
 use Rattle.lsys_syntax.specs.Tokens.{Kind, RightParen, Ampersand, Bar, Caret}
 use Rattle.lsys_syntax.specs.Pieces.{token, note, expr_ends}
 use Rattle.lsys_syntax.specs.Strings.{EachOf}
@@ -7,7 +7,8 @@ use Rattle.lsys_syntax.specs.Expressions.{TermOp, multiply, divide, remainder, S
 use Rattle.lsys_syntax.specs.ExpressionMachine as E
 use Rattle.lsys_syntax.specs.Nesting as N
 use Rattle.lsys_syntax.specs.RuleMachine.{Form, Spot, RuleState, InExpr, small, rule_step, within, expr_start}
-use Rattle.lsys_syntax.proofs.Complete.{leave_expr, leave_and, leave_rel, leave_sum, leave_term, leave_unary, read-expr}
+use Rattle.lsys_syntax.proofs.Complete.{leave_expr, has-expr, run-whole}
+use Rattle.lsys_syntax.proofs.Sound.{IsGoing, goes-before}
 use Rattle.lsys_syntax.proofs.Depths.{expr-within}
 use Rattle.lsys_syntax.proofs.Leads.{Leads, leads-append}
 
@@ -76,13 +77,20 @@ mutual
   atom-small (name n) g = (refl, tt)
   atom-small (parens e) g = (refl, small-append (expr_kinds e) (RightParen ∷ []) (expr-small e g) (refl, tt))
 
--- The state inside goes on as by itself, while it isn't done.
-abbrev pub IsLive : E.ExpressionState → Type 0
-IsLive (E.Done e) = ⊥
-IsLive E.Stop = ⊥
-IsLive s = Unit {0}
+-- Tokens of an expression stand in it as they are.
+pub smalls : (ks : List Kind) → AreSmall ks → map small ks ≡ ks
+smalls [] h = refl
+smalls (k ∷ ks) h = ap (λ t. t ∷ map small ks) h.0 ∙ ap (λ ts. k ∷ ts) (smalls ks h.1)
 
-within-live : (m : Form) (spot : Spot) (t : Kind) (s : E.ExpressionState) → IsLive s → within m spot t s ≡ InExpr spot s
+smalls-front : (ks js : List Kind) → AreSmall (ks ++ js) → AreSmall ks
+smalls-front [] js h = tt
+smalls-front (k ∷ ks) js h = (h.0, smalls-front ks js h.1)
+
+pub front-small : (ks rest : List Kind) (e : Expr) → IsExpr e → expr_kinds e ≡ ks ++ rest → map small ks ≡ ks
+front-small ks rest e g q = smalls ks (smalls-front ks rest (subst AreSmall q (expr-small e g)))
+
+-- The state inside goes on as by itself, while it isn't done.
+within-live : (m : Form) (spot : Spot) (t : Kind) (s : E.ExpressionState) → IsGoing s → within m spot t s ≡ InExpr spot s
 within-live m spot t (E.Due k) h = refl
 within-live m spot t (E.Have a k) h = refl
 within-live m spot t (E.HalfAnd a k) h = refl
@@ -90,59 +98,17 @@ within-live m spot t (E.HalfOr e k) h = refl
 within-live m spot t (E.Done e) h = elim h [ ]
 within-live m spot t E.Stop h = elim h [ ]
 
-stopped : (ts : List Kind) → E.run E.Stop ts ≡ E.Stop
-stopped [] = refl
-stopped (t ∷ ts) = stopped ts
-
--- what is live in the end was live before
-live-before : (ts : List Kind) (s : E.ExpressionState) → IsLive (E.run s ts) → IsLive s
-live-before [] s h = h
-live-before (t ∷ ts) (E.Due k) h = tt
-live-before (t ∷ ts) (E.Have a k) h = tt
-live-before (t ∷ ts) (E.HalfAnd a k) h = tt
-live-before (t ∷ ts) (E.HalfOr e k) h = tt
-live-before (t ∷ ts) (E.Done e) h = subst IsLive (stopped ts) h
-live-before (t ∷ ts) E.Stop h = subst IsLive (stopped ts) h
-
--- the state after a whole expression is live
-live-unary : (u : Unary) (k : E.InUnary) → IsLive (leave_unary u k)
-live-unary (negated u) k = live-unary u (E.negating k)
-live-unary (inverted u) k = live-unary u (E.inverting k)
-live-unary (only_atom a) k = tt
-live-unary (raised a u) k = live-unary u (E.raising a k)
-
-live-term : (t : Term) (k : E.InSum) → IsLive (leave_term t k)
-live-term (only_unary u) k = live-unary u (E.in_term (E.first_unary k))
-live-term (product t op u) k = live-unary u (E.in_term (E.next_unary t op k))
-
-live-sum : (s : Sum) (k : E.InRel) → IsLive (leave_sum s k)
-live-sum (only_term t) k = live-term t (E.first_term k)
-live-sum (total s op t) k = live-term t (E.next_term s op k)
-
-live-rel : (r : Rel) (k : E.InAnd) → IsLive (leave_rel r k)
-live-rel (only_sum s) k = live-sum s (E.first_sum k)
-live-rel (compare l op s) k = live-sum s (E.second_sum l op k)
-
-live-and : (a : And) (k : E.InExpr) → IsLive (leave_and a k)
-live-and (only_rel r) k = live-rel r (E.first_rel k)
-live-and (and a r) k = live-rel r (E.next_rel a k)
-
-live-expr : (e : Expr) (k : E.Around) → IsLive (leave_expr e k)
-live-expr (only_and a) k = live-and a (E.first_and k)
-live-expr (or e a) k = live-and a (E.next_and e k)
-
 module _ (m : Form) (b : ℕ) (spot : Spot) where
-  tokens-lead : (ts : List Kind) (s : E.ExpressionState) → IsLive (E.run s ts) → N.StaysWithin b s ts → AreSmall ts → Leads (rule_step m) (Shallow b) (InExpr spot s) (map token ts) (InExpr spot (E.run s ts))
+  tokens-lead : (ts : List Kind) (s : E.ExpressionState) → IsGoing (E.run s ts) → N.StaysWithin b s ts → AreSmall ts → Leads (rule_step m) (Shallow b) (InExpr spot s) (map token ts) (InExpr spot (E.run s ts))
   tokens-lead [] s l w h = refl
   tokens-lead (t ∷ ts) s l w h =
       let same : within m spot t (E.step s (small t)) ≡ InExpr spot (E.step s t) =
-      ap (λ k. within m spot t (E.step s k)) h.0 ∙ within-live m spot t (E.step s t) (live-before ts (E.step s t) l) in
+      ap (λ k. within m spot t (E.step s k)) h.0 ∙ within-live m spot t (E.step s t) (goes-before ts (E.step s t) l) in
       subst (λ x. Shallow b x × Leads (rule_step m) (Shallow b) x (map token ts) (InExpr spot (E.run s (t ∷ ts)))) (sym same) (w.0, tokens-lead ts (E.step s t) l w.1 h.1)
 
   pub expr-leads : (e : Expr) → IsExpr e → N.expr_nesting e ≤ b → Leads (rule_step m) (Shallow b) (InExpr spot expr_start) (expr_pieces e) (InExpr spot (leave_expr e E.no_parens))
   expr-leads e g n =
-      let all : E.run expr_start (expr_kinds e) ≡ leave_expr e E.no_parens =
-      ap (E.run expr_start) (sym (append-nil (expr_kinds e))) ∙ read-expr e E.no_parens [] in
+      let all : E.run expr_start (expr_kinds e) ≡ leave_expr e E.no_parens = run-whole e in
       leads-append (rule_step m) (Shallow b) (map token (expr_kinds e)) (note expr_ends ∷ []) (InExpr spot expr_start) (InExpr spot (E.run expr_start (expr_kinds e))) (InExpr spot (leave_expr e E.no_parens))
-      (tokens-lead (expr_kinds e) expr_start (subst IsLive (sym all) (live-expr e E.no_parens)) (expr-within e b E.no_parens (omega (arith, n))) (expr-small e g))
+      (tokens-lead (expr_kinds e) expr_start (subst IsGoing (sym (all ∙ (has-expr e E.no_parens).2)) tt) (expr-within e b E.no_parens (omega (arith, n))) (expr-small e g))
       (ap (λ s. InExpr spot s) all)

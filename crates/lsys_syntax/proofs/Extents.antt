@@ -1,40 +1,25 @@
 -- How far tokens are an expression: the place that is found, and both sides of it.
 use Rattle.std.proofs.Common.{◌≡◌, ◌⊎◌, inl, inr, ℕ, zero, suc, Bool, true, false, ◌≤◌, ◌<◌, ◌+◌, ◌^◌, max, Some, List, [], ◌∷◌, ◌++◌, map, take, drop, length, nat_lt, refl, ap, ◌∙◌, sym, subst, append_assoc, append-nil, arith, lt-ltb, if◌then◌else◌}
 use Rattle.lsys_syntax.specs.Tokens.{Kind, Number, Name, BigNumber, Arrow, LeftParen, Bang, Equal, Unequal, AtMost, AtLeast, RightParen, Plus, Minus, Times, Slash, Percent, Ampersand, Bar, Caret, Less, Greater}
-use Rattle.lsys_syntax.specs.Strings.{EachOf}
-use Rattle.lsys_syntax.specs.Expressions.{multiply, divide, remainder, add, subtract, RelOp, equal, unequal, less, at_most, greater, at_least, Expr, only_and, or, And, only_rel, and, Rel, only_sum, compare, Sum, only_term, total, Term, only_unary, product, Unary, negated, inverted, only_atom, raised, Atom, expr_kinds, IsExpr}
-use Rattle.lsys_syntax.specs.ExpressionMachine.{InUnary, negating, inverting, raising, in_term, InTerm, first_unary, next_unary, InSum, first_term, next_term, InRel, first_sum, second_sum, InAnd, first_rel, next_rel, InExpr, first_and, next_and, Around, no_parens, in_parens, ExpressionState, Due, Have, HalfAnd, HalfOr, Done, Stop, closing, other, half_or, ends_expr, half_and, ends_and, comparing, rel_step, ends_rel, more_sum, ends_sum, AfterUnary, more_term, ends_term, expr_step, what_follows, compared, closed, ended, AfterAtom, powering, ends_unary, after_unary, after_operand, after_atom, due_step, half_and_step, half_or_step, start_expr, step, run, end_step, finished}
+use Rattle.lsys_syntax.specs.Expressions.{multiply, divide, remainder, add, subtract, RelOp, equal, unequal, less, at_most, greater, at_least, Expr, And, Sum, Unary, negated, inverted, only_atom, raised, Atom, expr_kinds, IsExpr}
+use Rattle.lsys_syntax.specs.ExpressionMachine.{InUnary, negating, inverting, raising, in_term, InTerm, InRel, first_sum, second_sum, InExpr, Around, no_parens, in_parens, ExpressionState, Due, Have, HalfAnd, HalfOr, Done, Stop, closing, other, half_or, ends_expr, half_and, ends_and, comparing, rel_step, ends_rel, more_sum, ends_sum, AfterUnary, more_term, ends_term, expr_step, what_follows, compared, closed, ended, AfterAtom, powering, ends_unary, after_unary, after_operand, after_atom, due_step, half_and_step, half_or_step, start_expr, step, run, end_step, finished}
 use Rattle.lsys_syntax.specs.ExpressionPlaces.{BeginsExpression, IsAnyExpression, BeginsAnyExpression, CantGoOn, read_expr, Extent, ends, stops, too_deep, at_end, extent_behind, extent_from, extent}
 use Rattle.lsys_syntax.specs.Completions.{spelled, completion, completed}
 use Rattle.lsys_syntax.specs.Nesting.{expr_nesting, depth, StaysWithin}
 use Rattle.lsys_syntax.specs.RuleMachine.{small}
 use Rattle.lsys_syntax.specs.Sentences.{IsToken, AreTokens}
-use Rattle.lsys_syntax.proofs.Complete.{leave_expr, leave_and, leave_rel, leave_sum, leave_term, leave_unary, read-expr, expr_left, other-ends, paren-ends}
-use Rattle.lsys_syntax.proofs.Sound.{IsGoing, IsOver, other-over, completes, begins_not}
+use Rattle.lsys_syntax.proofs.Complete.{leave_expr, Has, has-expr, run-whole, end-whole, other-ends, paren-ends}
+use Rattle.lsys_syntax.proofs.Sound.{IsGoing, IsOver, goes-before, other-over, completes, begins_not}
 use Rattle.lsys_syntax.proofs.Fits.{Fits, completed-nesting}
 use Rattle.lsys_syntax.proofs.Depths.{expr-within, begins-within}
 use Rattle.lsys_syntax.proofs.ExprSound.{Good, IsOperand, IsNamed, After, step-after, completed-good, small-operand, small-taken}
-use Rattle.lsys_syntax.proofs.ExprLeads.{IsSmall, expr-small}
+use Rattle.lsys_syntax.proofs.ExprLeads.{expr-small, smalls, front-small}
 use Rattle.lsys_syntax.proofs.LineSound.{not_deep}
 use Rattle.lsys_syntax.proofs.Places.{tokens-front, is_deep}
 
 -- the state after some tokens
 abbrev runs : ExpressionState → List Kind → ExpressionState
 runs s ks = run s (map small ks)
-
-run-stop : (ts : List Kind) → run Stop ts ≡ Stop
-run-stop [] = refl
-run-stop (t ∷ ts) = run-stop ts
-
--- what goes on in the end went on before
-goes-before : (ts : List Kind) (s : ExpressionState) → IsGoing (run s ts) → IsGoing s
-goes-before [] s h = h
-goes-before (t ∷ ts) (Due k) h = tt
-goes-before (t ∷ ts) (Have a k) h = tt
-goes-before (t ∷ ts) (HalfAnd a k) h = tt
-goes-before (t ∷ ts) (HalfOr e k) h = tt
-goes-before (t ∷ ts) (Done e) h = subst IsGoing (run-stop ts) h
-goes-before (t ∷ ts) Stop h = subst IsGoing (run-stop ts) h
 
 -- The tokens are taken, no deeper than b.
 abbrev Goes : ℕ → ExpressionState → List Kind → Type 0
@@ -224,18 +209,6 @@ taken-begins-any ks g h =
     let b : ℕ = deepest (start_expr no_parens) (map small ks) in
     (b, taken-begins b ks g (deepest-within b (map small ks) (start_expr no_parens) (omega arith), h))
 
--- Tokens of an expression stand in it as they are.
-smalls : (ks : List Kind) → EachOf IsSmall ks → map small ks ≡ ks
-smalls [] h = refl
-smalls (k ∷ ks) h = ap (λ t. t ∷ map small ks) h.0 ∙ ap (λ ts. k ∷ ts) (smalls ks h.1)
-
-smalls-front : (ks js : List Kind) → EachOf IsSmall (ks ++ js) → EachOf IsSmall ks
-smalls-front [] js h = tt
-smalls-front (k ∷ ks) js h = (h.0, smalls-front ks js h.1)
-
-front-small : (ks rest : List Kind) (e : Expr) → IsExpr e → expr_kinds e ≡ ks ++ rest → map small ks ≡ ks
-front-small ks rest e g q = smalls ks (smalls-front ks rest (subst (EachOf IsSmall) q (expr-small e g)))
-
 -- No expression begins with tokens after which it is over.
 over-none : (ks : List Kind) → IsOver (runs (start_expr no_parens) ks) → BeginsAnyExpression ks → ⊥
 over-none ks h g =
@@ -377,42 +350,6 @@ deep-goes ks d g q = taken-begins-any (take (suc d) ks) (tokens-front (suc d) ks
 -- The tokens before the place of an end are read as the expression.
 pub ends-read : (ks : List Kind) (d : ℕ) (e : Expr) → extent ks ≡ ends d e → read_expr (take d ks) ≡ Some e
 ends-read ks d e q = ap finished (at ks (ends d e) q).2.1
-
--- After a whole expression an operand was read.
-abbrev Has : ExpressionState → Type 0
-Has s = (a : Atom) × (k : InUnary) × (s ≡ Have a k)
-
-has-unary : (u : Unary) (k : InUnary) → Has (leave_unary u k)
-has-unary (negated u) k = has-unary u (negating k)
-has-unary (inverted u) k = has-unary u (inverting k)
-has-unary (only_atom a) k = (a, k, refl)
-has-unary (raised a u) k = has-unary u (raising a k)
-
-has-term : (t : Term) (k : InSum) → Has (leave_term t k)
-has-term (only_unary u) k = has-unary u (in_term (first_unary k))
-has-term (product t op u) k = has-unary u (in_term (next_unary t op k))
-
-has-sum : (s : Sum) (k : InRel) → Has (leave_sum s k)
-has-sum (only_term t) k = has-term t (first_term k)
-has-sum (total s op t) k = has-term t (next_term s op k)
-
-has-rel : (r : Rel) (k : InAnd) → Has (leave_rel r k)
-has-rel (only_sum s) k = has-sum s (first_sum k)
-has-rel (compare l op s) k = has-sum s (second_sum l op k)
-
-has-and : (a : And) (k : InExpr) → Has (leave_and a k)
-has-and (only_rel r) k = has-rel r (first_rel k)
-has-and (and a r) k = has-rel r (next_rel a k)
-
-has-expr : (e : Expr) (k : Around) → Has (leave_expr e k)
-has-expr (only_and a) k = has-and a (first_and k)
-has-expr (or e a) k = has-and a (next_and e k)
-
-run-whole : (e : Expr) → run (start_expr no_parens) (expr_kinds e) ≡ leave_expr e no_parens
-run-whole e = ap (run (start_expr no_parens)) (sym (append-nil (expr_kinds e))) ∙ read-expr e no_parens []
-
-end-whole : (e : Expr) → end_step (leave_expr e no_parens) ≡ Done e
-end-whole e = expr_left end_step other (λ a j. refl) e no_parens
 
 pub within-rest : (n : ℕ) (x : Extent) (s t : ExpressionState) → depth t ≤ 32 → IsGoing t → extent_behind n s t x ≡ x
 within-rest n x s t d g = behind-going n s t x g ∙ ap (λ c. if c then too_deep n else x) (shallow (depth t) (nat_lt 32 (depth t)) refl d)

@@ -3,7 +3,7 @@ use Rattle.std.proofs.Common.{◌≡◌, List, [], ◌∷◌, ◌++◌, refl, ap
 use Rattle.lsys_syntax.specs.Tokens.{Kind, Name, Number, Equal, Unequal, AtMost, AtLeast, LeftParen, RightParen, Plus, Minus, Times, Slash, Percent, Ampersand, Bar, Caret, Bang, Less, Greater}
 use Rattle.lsys_syntax.specs.Expressions.{Expr, only_and, or, And, only_rel, and, Rel, only_sum, compare, Sum, only_term, total, Term, only_unary, product, Unary, negated, inverted, only_atom, raised, Atom, number, parens, term_kind, sum_kind, rel_kind, expr_kinds, and_kinds, rel_kinds, sum_kinds, term_kinds, unary_kinds, atom_kinds}
 use Rattle.lsys_syntax.specs.ExpressionMachine.{InUnary, negating, inverting, raising, in_term, InTerm, first_unary, next_unary, InSum, first_term, next_term, InRel, first_sum, second_sum, InAnd, first_rel, next_rel, InExpr, first_and, next_and, Around, no_parens, in_parens, ExpressionState, Due, Have, HalfAnd, HalfOr, Done, Stop, AfterExpr, closing, other, AfterAnd, half_or, ends_expr, AfterRel, half_and, ends_and, AfterSum, comparing, ends_rel, AfterTerm, more_sum, ends_sum, AfterUnary, more_term, ends_term, AfterAtom, powering, ends_unary, what_follows, after_expr, after_and, after_rel, after_sum, after_term, after_unary, after_operand, after_atom, start_expr, step, run, ended}
-use Rattle.lsys_syntax.proofs.Complete.{leave_unary, leave_term, leave_sum, leave_rel, leave_and, leave_expr, read-expr}
+use Rattle.lsys_syntax.proofs.Complete.{leave_expr, has-expr, run-whole}
 use Rattle.lsys_syntax.specs.Completions.{before_unary, before_term, before_sum, before_rel, before_and, before_expr, before, spelled, closing_unary, closing_term, closing_sum, closing_rel, closing_and, closing_expr, closing_around, completion, fill_unary, fill_term, fill_sum, fill_rel, fill_and, fill_expr, fill_around, completed}
 
 -- front, an operator after its left side, and what follows
@@ -59,6 +59,20 @@ abbrev pub IsGoing : ExpressionState → Type 0
 IsGoing (Done e) = ⊥
 IsGoing Stop = ⊥
 IsGoing s = Unit {0}
+
+run-stop : (ts : List Kind) → run Stop ts ≡ Stop
+run-stop [] = refl
+run-stop (t ∷ ts) = run-stop ts
+
+-- what goes on in the end went on before
+pub goes-before : (ts : List Kind) (s : ExpressionState) → IsGoing (run s ts) → IsGoing s
+goes-before [] s h = h
+goes-before (t ∷ ts) (Due k) h = tt
+goes-before (t ∷ ts) (Have a k) h = tt
+goes-before (t ∷ ts) (HalfAnd a k) h = tt
+goes-before (t ∷ ts) (HalfOr e k) h = tt
+goes-before (t ∷ ts) (Done e) h = subst IsGoing (run-stop ts) h
+goes-before (t ∷ ts) Stop h = subst IsGoing (run-stop ts) h
 
 pub completes : (s : ExpressionState) → IsGoing s → expr_kinds (completed s) ≡ spelled s ++ completion s
 completes (Due k) g = fill_unary-kinds (only_atom (number 0)) k
@@ -251,32 +265,6 @@ begins ts g =
     let taken : spelled s ≡ ts = going_spelled s ts g (run-keeps ts (start_expr no_parens) [] tt refl) in
     (completed s, completes s g ∙ ap (λ x. x ++ completion s) taken)
 
-going_unary : (u : Unary) (k : InUnary) → IsOver (leave_unary u k) → ⊥
-going_unary (negated u) k h = going_unary u (negating k) h
-going_unary (inverted u) k h = going_unary u (inverting k) h
-going_unary (only_atom a) k h = h
-going_unary (raised a u) k h = going_unary u (raising a k) h
-
-going_term : (t : Term) (k : InSum) → IsOver (leave_term t k) → ⊥
-going_term (only_unary u) k h = going_unary u (in_term (first_unary k)) h
-going_term (product t op u) k h = going_unary u (in_term (next_unary t op k)) h
-
-going_sum : (s : Sum) (k : InRel) → IsOver (leave_sum s k) → ⊥
-going_sum (only_term t) k h = going_term t (first_term k) h
-going_sum (total s op t) k h = going_term t (next_term s op k) h
-
-going_rel : (r : Rel) (k : InAnd) → IsOver (leave_rel r k) → ⊥
-going_rel (only_sum s) k h = going_sum s (first_sum k) h
-going_rel (compare l op r) k h = going_sum r (second_sum l op k) h
-
-going_and : (a : And) (k : InExpr) → IsOver (leave_and a k) → ⊥
-going_and (only_rel r) k h = going_rel r (first_rel k) h
-going_and (and a r) k h = going_rel r (next_rel a k) h
-
-going_expr : (e : Expr) (k : Around) → IsOver (leave_expr e k) → ⊥
-going_expr (only_and a) k h = going_and a (first_and k) h
-going_expr (or e a) k h = going_and a (next_and e k) h
-
 run-append : (ts us : List Kind) (s : ExpressionState) → run s (ts ++ us) ≡ run (run s ts) us
 run-append [] us s = refl
 run-append (t ∷ ts) us s = run-append ts us (step s t)
@@ -285,5 +273,5 @@ run-append (t ∷ ts) us s = run-append ts us (step s t)
 pub begins_not : (ts rest : List Kind) (e : Expr) → IsOver (run (start_expr no_parens) ts) → expr_kinds e ≡ ts ++ rest → ⊥
 begins_not ts rest e h d =
     let whole : run (start_expr no_parens) (ts ++ rest) ≡ leave_expr e no_parens =
-    ap (run (start_expr no_parens)) (sym d ∙ sym (append-nil (expr_kinds e))) ∙ read-expr e no_parens [] in
-    going_expr e no_parens (subst IsOver (sym (run-append ts rest (start_expr no_parens)) ∙ whole) (over_run rest (run (start_expr no_parens) ts) h))
+    ap (run (start_expr no_parens)) (sym d) ∙ run-whole e in
+    subst IsOver (sym (run-append ts rest (start_expr no_parens)) ∙ whole ∙ (has-expr e no_parens).2) (over_run rest (run (start_expr no_parens) ts) h)
