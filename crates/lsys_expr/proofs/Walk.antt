@@ -10,7 +10,8 @@ use Rattle.lsys_syntax.specs.Nesting.{depth}
 use Rattle.lsys_syntax.specs.RuleMachine.{small}
 use Rattle.lsys_syntax.specs.Sentences.{AreTokens}
 use Rattle.lsys_syntax.proofs.Sound.{IsGoing}
-use Rattle.lsys_syntax.proofs.Extents.{within-rest, behind-deep, ends-whole, ends-last, stop-begins, stop-last, stop-whole, deep-begins, deep-none, deep-goes}
+use Rattle.lsys_syntax.proofs.WholeExpressions.{within-rest, behind-deep}
+use Rattle.lsys_syntax.proofs.Extents.{ends-whole, ends-last, stop-begins, stop-last, stop-whole, deep-begins, deep-none, deep-goes}
 use Rattle.lsys_text.specs.Tokens.{kind_of, kind_row}
 use Rattle.lsys_text.specs.declared.token_kind.Token.{Token as TextToken}
 use Rattle.lsys_text.specs.declared.refusals.PlaceRefusal.{PlaceRefusal}

@@ -1,5 +1,5 @@
 -- The place of a verdict: a sentence begins with the tokens before it, and none goes on with the token there.
-use Rattle.std.proofs.Common.{◌≡◌, ◌⊎◌, inl, inr, ℕ, zero, suc, Bool, true, false, ◌≤◌, ◌<◌, ◌+◌, max, Option, Some, None, List, [], ◌∷◌, ◌++◌, take, length, nat_lt, refl, ap, ◌∙◌, sym, subst, append_assoc, append-nil, arith}
+use Rattle.std.proofs.Common.{◌≡◌, ◌⊎◌, inl, inr, ℕ, zero, suc, Bool, true, false, ◌≤◌, ◌<◌, ◌+◌, max, Option, Some, None, List, [], ◌∷◌, ◌++◌, take, drop, length, nat_lt, refl, ap, ◌∙◌, sym, subst, append_assoc, append-nil, arith}
 use Rattle.std.proofs.lemmas.Bool.Decides.{nat_tests}
 use Rattle.lsys_syntax.specs.Tokens.{Kind}
 use Rattle.lsys_syntax.specs.Pieces.{Piece, blank, token, note, kinds_of}
@@ -167,6 +167,11 @@ pub tokens-front : (n : ℕ) (ks : List Kind) → AreTokens ks → AreTokens (ta
 tokens-front zero ks g = subst AreTokens (sym (take-none ks)) tt
 tokens-front (suc n) [] g = tt
 tokens-front (suc n) (k ∷ ks) g = (g.0, tokens-front n ks g.1)
+
+pub tokens-rest : (n : ℕ) (ks : List Kind) → AreTokens ks → AreTokens (drop n ks)
+tokens-rest zero ks g = g
+tokens-rest (suc n) [] g = tt
+tokens-rest (suc n) (k ∷ ks) g = tokens-rest n ks g.1
 
 blocked-inside : (ks : List Kind) (j : ℕ) (s : State) → j < length ks → Blocked s ks j → run s (take (suc j) ks) ≡ Stop
 blocked-inside [] j s h b = absurd (omega arith)

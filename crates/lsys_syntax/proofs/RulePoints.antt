@@ -12,7 +12,7 @@ use Rattle.lsys_syntax.specs.Nesting as N
 use Rattle.lsys_syntax.specs.Rules.{Rule}
 use Rattle.lsys_syntax.specs.LineMachine as L
 use Rattle.lsys_syntax.specs.RuleMachine.{Form, production, homomorphism, Spot, RuleState, Formals, FormalDue, FormalRead, InExpr, Successor, Stop, small, done_step, within, expr_start, rule_step, whole}
-use Rattle.lsys_syntax.proofs.Extents.{IsComparison, stop-compares}
+use Rattle.lsys_syntax.proofs.WholeExpressions.{IsComparison, stop-compares}
 use Rattle.lsys_syntax.specs.RulePoints.{RuleVerdict, stops, too_deep, rule_or_stop, taken, rule_from, Line, production_of, homomorphism_of, form_of, line_state, line_verdict, Point, at_state, after_expr, point_step, point_end, point_from, by_extent, verdict_at, Leads, Here}
 
 -- 1. a state is a point

@@ -1,4 +1,5 @@
-use Rattle.lsys_syntax.proofs.Extents.{ends-whole, ends-last, stop-begins, stop-last, stop-whole, deep-begins, deep-none, deep-goes, whole-found, ends-read}
+use Rattle.lsys_syntax.proofs.Extents.{ends-whole, ends-last, stop-begins, stop-last, stop-whole, deep-begins, deep-none, deep-goes, ends-read}
+use Rattle.lsys_syntax.proofs.WholeExpressions.{whole-found}
 use Rattle.lsys_syntax.proofs.law_of_expression_places.Goals as goal
 
 pub returns-clause-ends : goal.returns-clause-ends

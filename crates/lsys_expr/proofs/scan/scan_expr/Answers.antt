@@ -2,7 +2,7 @@ use Rattle.std.proofs.Common.{arith, ◌≡◌, ◌+◌, ℕ, List, [], ◌∷�
 use Rattle.std.proofs.lemmas.Grind.{common_steps, elements}
 use Rattle.lsys_syntax.specs.Tokens.{Kind}
 use Rattle.lsys_syntax.specs.ExpressionPlaces.{extent}
-use Rattle.lsys_syntax.proofs.Extents.{tokens-rest}
+use Rattle.lsys_syntax.proofs.Places.{tokens-rest}
 use Rattle.lsys_text.specs.Tokens.{kind_of, kind_row}
 use Rattle.lsys_text.specs.declared.refusals.PlaceRefusal.TheVariants.{Token, Deep}
 use Rattle.lsys_expr.specs.Scanned.{IsExtent}
