@@ -30,7 +30,6 @@ FOREST = "the forest, what is marked in it and the lists that are filled are len
 TESTED = "a test's values, each given as itself"
 TABLE = "a test's table: its rows are its lines"
 ARMS = "one arm for each pair of turns"
-LEMMAS = "lemmas about one shelf, each of which stands on those above it"
 OWN_WORD = "a plain word that each of these crates has for a thing of its own"
 FEW_USES = "a fact that one clause names, or a step of one proof; the figure may fall and not rise"
 
@@ -130,7 +129,6 @@ KNOWN: tuple[Known, ...] = (
     Known("lines of a function", "crates/lsys_tests_scripts/src/editing.rt", "edits", 69, TABLE),
     Known("lines of a function", "crates/lsys_tests_scripts/src/refusing.rt", "refusals", 89, TABLE),
     Known("lines of a function", "crates/lsys_tests_scripts/src/stepping.rt", "steps", 64, TABLE),
-    Known("lines of a file", "crates/lsys_forest/proofs/ShelfLemmas.antt", "", 623, LEMMAS),
 )
 
 # The wrong bodies that a must-fail edit of the crate has to be, whatever else is one: its name, and what it does.

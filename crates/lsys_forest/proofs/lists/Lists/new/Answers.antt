@@ -2,7 +2,8 @@ use Rattle.std.proofs.Common.{[], sym, subst}
 use Rattle.std.specs.Prelude.{None}
 use Rattle.lsys_region.specs.Pool.{Pool, IsFresh, OthersStay, empty_pool}
 use Rattle.lsys_forest.specs.Shelves.{AreOwned}
-use Rattle.lsys_forest.proofs.ShelfLemmas.{room_nil, AreOwned-new}
+use Rattle.lsys_forest.proofs.ShelfLemmas.{room_nil}
+use Rattle.lsys_forest.proofs.OwnerLemmas.{AreOwned-new}
 use Rattle.lsys_forest.proofs.lists.Lists.new.Goals as goal
 
 pub place-hand-requires : goal.place-hand-requires
