@@ -3,7 +3,7 @@ use Rattle.std.specs.Prelude.{IfSome, IfNone}
 use Rattle.lsys_forest.specs.Shelves.{run_list}
 use Rattle.lsys_forest.specs.Changes.{Change, KeepsKids}
 use Rattle.lsys_forest.specs.Stocks.{Stock, changes_of}
-use Rattle.lsys_forest.proofs.BackLemmas.{family_is, family_none}
+use Rattle.lsys_forest.proofs.LastLemmas.{family_is, family_none}
 use Rattle.lsys_forest.proofs.stock.Parts.last_family.Goals as goal
 
 pub returns-clause-some : goal.returns-clause-some

@@ -6,7 +6,7 @@ use Rattle.lsys_forest.specs.Changes.{Change}
 use Rattle.lsys_forest.specs.Answers.{Lives, Releases, old_answer}
 use Rattle.lsys_forest.specs.Stocks.{Stock, changes_of, changes_told, IsStock, stock_of, TakesUp}
 use Rattle.lsys_forest.proofs.StockLemmas.{shown_nodes}
-use Rattle.lsys_forest.proofs.BackLemmas.{last_undone, take_done, drops_left, takes_left, names_left}
+use Rattle.lsys_forest.proofs.LastLemmas.{last_undone, take_done, drops_left, takes_left, names_left}
 use Rattle.lsys_forest.proofs.stock.Parts.take_last.Goals as goal
 
 pub take_up-requires : goal.take_up-requires

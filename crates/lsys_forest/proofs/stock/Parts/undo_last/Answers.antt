@@ -5,7 +5,8 @@ use Rattle.lsys_forest.specs.Shelves.{shelf_of}
 use Rattle.lsys_forest.specs.Changes.{Change}
 use Rattle.lsys_forest.specs.Answers.{Lives, Releases}
 use Rattle.lsys_forest.specs.Stocks.{Stock, nodes_of, changes_of, changes_told, dropped, IsStock, stock_of, KeepsFootings, Undoes}
-use Rattle.lsys_forest.proofs.BackLemmas.{last_undone, undo_done, undone_kept}
+use Rattle.lsys_forest.proofs.LastLemmas.{last_undone}
+use Rattle.lsys_forest.proofs.BackLemmas.{undo_done, undone_kept}
 use Rattle.lsys_forest.proofs.stock.Parts.undo_last.Goals as goal
 
 pub undo_note-requires-clause-made : goal.undo_note-requires-clause-made
