@@ -20,7 +20,8 @@ use Rattle.lsys_forest.proofs.SoundLemmas.{some_of}
 use Rattle.lsys_forest.proofs.RowLemmas.{In_left, In_right, apart_parts, oriented_In_back, level_apart, level_depth}
 use Rattle.lsys_forest.proofs.WalkLemmas.{no_first, first_split, level_live}
 use Rattle.lsys_forest.proofs.LinkLemmas.{levels_live, levels_above}
-use Rattle.lsys_forest.proofs.PairLemmas.{pairing_start, pairing_on, pairing_done, open_in, same_sort, opens_same, end_same}
+use Rattle.lsys_forest.proofs.BranchLemmas.{opens_same, end_same, same_sort}
+use Rattle.lsys_forest.proofs.PairLemmas.{pairing_start, pairing_on, pairing_done, open_in}
 
 module _ {A : Type 0} where
   -- 1. a level is walked along

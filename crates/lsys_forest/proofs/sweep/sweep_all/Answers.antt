@@ -7,7 +7,6 @@ use Rattle.lsys_forest.specs.Answers.{answers, old_answer, LiveApart, FreesUnhel
 use Rattle.lsys_forest.specs.Slots.{footing_at}
 use Rattle.lsys_forest.specs.Ranks.{AreRanked}
 use Rattle.lsys_forest.specs.Sweeps.{IsSwept}
-use Rattle.lsys_forest.proofs.StockLemmas.{told_none}
 use Rattle.lsys_forest.proofs.SweepLemmas.{IsSwept-start, IsSwept-pop}
 use Rattle.lsys_forest.proofs.AnswerLemmas.{IsStep, take_step, lost_made, step_made, step_follows, follows_on, follows_start}
 use Rattle.lsys_forest.proofs.sweep.sweep_all.Goals as goal

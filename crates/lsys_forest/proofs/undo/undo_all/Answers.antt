@@ -3,7 +3,6 @@ use Rattle.lsys_forest.specs.Nodes.{Nodes}
 use Rattle.lsys_forest.specs.Changes.{Change, undone, undo}
 use Rattle.lsys_forest.specs.Stocks.{Stock, nodes_of, changes_of, dropped}
 use Rattle.lsys_forest.specs.Answers.{answers, LiveApart, FreesUnheld}
-use Rattle.lsys_forest.proofs.StockLemmas.{told_none}
 use Rattle.lsys_forest.proofs.SoundLemmas.{undone_last}
 use Rattle.lsys_forest.proofs.AnswerLemmas.{IsStep, undo_step, lost_made, step_made, step_follows, follows_on}
 use Rattle.lsys_forest.proofs.RankLemmas.{undone_sound}

@@ -9,7 +9,7 @@ use Rattle.lsys_forest.proofs.RankLemmas.{set_ranked}
 use Rattle.lsys_forest.proofs.GroveLemmas.{sound_now, IsGrove-set, set_rested}
 use Rattle.lsys_forest.proofs.LinkLemmas.{set_linked}
 use Rattle.lsys_forest.proofs.MatedLemmas.{set_mated}
-use Rattle.lsys_forest.proofs.PairLemmas.{same_sort}
+use Rattle.lsys_forest.proofs.BranchLemmas.{same_sort}
 use Rattle.lsys_forest.proofs.forest.Forest.set_answer.Goals as goal
 
 pub invariant_of-self : goal.invariant_of-self

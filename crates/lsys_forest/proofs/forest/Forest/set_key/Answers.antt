@@ -12,7 +12,7 @@ use Rattle.std.specs.Option.{option_and_then}
 use Rattle.lsys_forest.specs.Changes.{OldKey}
 use Rattle.lsys_forest.proofs.LinkLemmas.{set_linked}
 use Rattle.lsys_forest.proofs.MatedLemmas.{set_mated}
-use Rattle.lsys_forest.proofs.PairLemmas.{same_sort}
+use Rattle.lsys_forest.proofs.BranchLemmas.{same_sort}
 use Rattle.lsys_forest.proofs.forest.Forest.set_key.Goals as goal
 
 pub invariant_of-self : goal.invariant_of-self

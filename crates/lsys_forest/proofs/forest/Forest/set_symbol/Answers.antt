@@ -1,4 +1,4 @@
-use Rattle.lsys_forest.proofs.PairLemmas.{sort_of}
+use Rattle.lsys_forest.proofs.BranchLemmas.{sort_of}
 use Rattle.std.proofs.Common.{◌≡◌, ◌∙◌, ◌⊎◌, ◌≤◌, ◌<◌, ◌-◌, Some, refl, sym, subst, arith, ap, [], inl, inr}
 use Rattle.std.specs.Prelude.{IsSome}
 use Rattle.lsys_level.specs.Places.{seen_in, params_in}
