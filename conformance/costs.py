@@ -2,7 +2,7 @@
 
 usage: conformance/costs [PART ..] [--program PATH] [--sizes 1000,10000,100000] [--write]
 
-The parts are derive, edits, anew, pictures, motions, lines and memory; without one all are measured. The program is bin/lsys by default, and
+The parts are derive, aims, edits, anew, pictures, motions, lines and memory; without one all are measured. The program is bin/lsys by default, and
 can't be one with the address sanitizer, with which callgrind does not go. Each figure of instructions is the difference between two runs
 that differ by one line, so what every run costs is taken off. With --write each table is put into docs/COSTS.md too, in place of the one
 of its part. It is no part of the gate, and takes some minutes.
@@ -15,7 +15,8 @@ import re
 import shutil
 import subprocess
 import tempfile
-from collections.abc import Callable, Sequence
+from collections.abc import Callable, Iterator, Sequence
+from typing import NamedTuple
 
 from anew import ratios
 from pages import put_part
@@ -23,7 +24,9 @@ from programs import PROVED, TOP, checked
 from telling import Words, give_up
 
 # A change in words, how the system is made ready for it, and the line of an axiom that changes it.
-Change = tuple[str, Callable[[list[bytes], bytes], list[bytes]], Callable[[bytes], bytes]]
+Prepared = Callable[[list[bytes], bytes], list[bytes]]
+Changed = Callable[[bytes], bytes]
+Change = tuple[str, Prepared, Changed]
 LEVELS = 25  # a depth of 24: a derivation of 100,000 symbols then has an axiom of 4,000, near the most that are allowed
 
 # What a level is made of, again and again, and the productions. No level is longer than the one before.
@@ -108,6 +111,61 @@ def derive(costs: Costs, sizes: list[int]) -> None:
         costs.row(name, *figures)
 
 
+# Systems whose levels grow, the lines that make them, the last one, that derives them, and the symbols of all their levels.
+GROWN = [
+    ("algae", [b"axiom B", b"production a: A => AB", b"production b: B => A"], b"depth 20", 28656),
+    ("a Koch curve", [b"axiom F", b"production f: F => F+F-F-F+F"], b"depth 5", 7806),
+    ("a Koch island", [b"axiom F-F-F-F", b"production f: F => F-F+F+FF-F-F+F"], b"depth 4", 34771),
+    ("a plant", [b"axiom X", b"production x: X => F-[[X]+X]+F[+FX]-X", b"production f: F => FF"], b"depth 6", 33460),
+]
+AIMED = 20000  # symbols, of the systems whose levels don't grow
+
+# What a plain deriver takes that keeps no answers, in Rust, in instructions a symbol of the same derivations; and the aim, in what it takes.
+PLAIN = {
+    "no contexts": (856, 1.5),
+    "a parameter and a condition": (1033, 2.0),
+    "weights": (1221, 2.0),
+    "a left context": (959, 2.0),
+    "a right context over branches": (719, 2.0),
+    "algae": (601, 1.5),
+    "a Koch curve": (246, 1.5),
+    "a Koch island": (186, 1.5),
+    "a plant": (233, 1.5),
+}
+
+
+class Derived(NamedTuple):
+    """What a first derivation took, in instructions a symbol, beside a plain deriver."""
+    name: str
+    cost: int
+    plain: int
+    aim: float
+
+    @property
+    def times(self) -> float:
+        return self.cost / self.plain
+
+    @property
+    def missed_by(self) -> float:
+        return self.times / self.aim
+
+
+def derived(costs: Costs) -> Iterator[Derived]:
+    """A first derivation of each system that has an aim."""
+    for name, unit, productions in SYSTEMS:
+        lines, symbols = lines_of(unit, productions, AIMED)
+        yield Derived(name, costs.more(lines, [b"depth %d" % (LEVELS - 1)]) // symbols, *PLAIN[name])
+    for name, lines, last, symbols in GROWN:
+        yield Derived(name, costs.more(lines, [last]) // symbols, *PLAIN[name])
+
+
+def aims(costs: Costs, sizes: list[int]) -> None:
+    costs.head("Instructions for each symbol of a first derivation, beside a plain deriver that keeps no answers; what misses its aim by most first.",
+               "system", "instructions", "plain deriver", "times", "aim")
+    for one in sorted(derived(costs), key=lambda one: -one.missed_by):
+        costs.row(one.name, one.cost, one.plain, "%.2f" % one.times, "%.1f" % one.aim)
+
+
 def changes_of(unit: bytes, productions: list[bytes]) -> list[Change]:
     """What is changed of a system: in words, how the system is made ready for it, and the line of an axiom that changes it."""
     return [
@@ -122,24 +180,29 @@ def changes_of(unit: bytes, productions: list[bytes]) -> list[Change]:
 
 
 def edits(costs: Costs, sizes: list[int]) -> None:
-    costs.head("Instructions for each symbol of the derivation, of an edit.", "system", "edit", *["{:,} symbols".format(size) for size in sizes])
+    costs.head("Instructions for each symbol of the derivation, of an edit: of the first one after the derivation, which lists who read what, and "
+               "of others after it.", "system", "edit", *["{:,} symbols".format(size) for size in sizes])
     for name, unit, productions in SYSTEMS:
+        again = [productions[-1]]
+        costs.row(name, "the same production again, as the first edit",
+                  *[of_edit(costs, size, unit, productions, [], as_it_is, lambda axiom: again[0]) for size in sizes])
         for change, prepared, last in changes_of(unit, productions):
-            figures = []
-            for size in sizes:
-                lines, symbols = lines_of(unit, productions, size)
-                derived = prepared(lines, unit) + [b"depth %d" % (LEVELS - 1)]
-                figures.append(costs.more(derived, [last(lines[0])]) // symbols)
-            costs.row(name, change, *figures)
+            costs.row(name, change, *[of_edit(costs, size, unit, productions, again, prepared, last) for size in sizes])
+
+
+def of_edit(costs: Costs, size: int, unit: bytes, productions: list[bytes], before: list[bytes], prepared: Prepared, last: Changed) -> int:
+    """The instructions for each symbol that an edit costs after a derivation and the lines before it."""
+    lines, symbols = lines_of(unit, productions, size)
+    return costs.more(prepared(lines, unit) + [b"depth %d" % (LEVELS - 1)] + before, [last(lines[0])]) // symbols
 
 
 def beside_anew(costs: Costs, sizes: list[int]) -> None:
     costs.head("Instructions of an edit, of its undo and of its redo, in those of a first derivation of the system that stands then; the dearest "
-               "edits first.", "system", "edit", "edit", "undo", "redo")
+               "edits first. Beside them the undo in instructions of the edit.", "system", "edit", "edit", "undo", "redo", "undo beside edit")
     tried = list(ratios(costs.program))
     edits = [tried[at:at + 3] for at in range(0, len(tried), 3)]
     for three in sorted(edits, key=lambda three: -three[0].of_anew):
-        costs.row(three[0].system, three[0].kind, *["%.2f" % one.of_anew for one in three])
+        costs.row(three[0].system, three[0].kind, *["%.2f" % one.of_anew for one in three], "%.2f" % (three[1].cost / three[0].cost))
 
 
 def as_it_is(lines: list[bytes], unit: bytes) -> list[bytes]:
@@ -245,7 +308,7 @@ def memory(costs: Costs, sizes: list[int]) -> None:
                       "%.1f" % (heap / 1e6), "%.1f" % (resident / 1e6), "%.2f" % seconds)
 
 
-PARTS = {"derive": derive, "edits": edits, "anew": beside_anew, "pictures": pictures, "motions": motions, "lines": lines, "memory": memory}
+PARTS = {"derive": derive, "aims": aims, "edits": edits, "anew": beside_anew, "pictures": pictures, "motions": motions, "lines": lines, "memory": memory}
 
 
 def main() -> int:

@@ -105,8 +105,8 @@ def fails_row(program: str, row: Row) -> bool:
 def fails_again(program: str) -> bool:
     """Whether to let a derivation go and to make it again costs too much; it is told."""
     system = [b"axiom AAAAAAAAAA", b"production a: A => AB", b"production b: B => BA"]
-    none, first, again = (instructions(program, system + lines)
-                          for lines in ([], [b"depth 10"], [b"depth 10", b"depth 0", b"depth 10"]))
+    ways: list[list[bytes]] = [[], [b"depth 10"], [b"depth 10", b"depth 0", b"depth 10"]]
+    none, first, again = (instructions(program, system + lines) for lines in ways)
     ratio = (again - first) / (first - none)
     print("%-31s %s: %.2f times what it cost at first" % ("let go and made again", "DIFFERS" if ratio > MOST_AGAIN else "agrees", ratio))
     return ratio > MOST_AGAIN
