@@ -24,9 +24,7 @@ from programs import PROVED, TOP, checked
 from telling import Words, give_up
 
 # A change in words, how the system is made ready for it, and the line of an axiom that changes it.
-Prepared = Callable[[list[bytes], bytes], list[bytes]]
-Changed = Callable[[bytes], bytes]
-Change = tuple[str, Prepared, Changed]
+Change = tuple[str, Callable[[list[bytes], bytes], list[bytes]], Callable[[bytes], bytes]]
 LEVELS = 25  # a depth of 24: a derivation of 100,000 symbols then has an axiom of 4,000, near the most that are allowed
 
 # What a level is made of, again and again, and the productions. No level is longer than the one before.
@@ -183,17 +181,21 @@ def edits(costs: Costs, sizes: list[int]) -> None:
     costs.head("Instructions for each symbol of the derivation, of an edit: of the first one after the derivation, which lists who read what, and "
                "of others after it.", "system", "edit", *["{:,} symbols".format(size) for size in sizes])
     for name, unit, productions in SYSTEMS:
-        again = [productions[-1]]
-        costs.row(name, "the same production again, as the first edit",
-                  *[of_edit(costs, size, unit, productions, [], as_it_is, lambda axiom: again[0]) for size in sizes])
-        for change, prepared, last in changes_of(unit, productions):
-            costs.row(name, change, *[of_edit(costs, size, unit, productions, again, prepared, last) for size in sizes])
+        changes = changes_of(unit, productions)
+        for number, (change, prepared, last) in enumerate([first_of_all(changes[0])] + changes):
+            before = productions[-1:] if number else []
+            figures = []
+            for size in sizes:
+                lines, symbols = lines_of(unit, productions, size)
+                derived = prepared(lines, unit) + [b"depth %d" % (LEVELS - 1)] + before
+                figures.append(costs.more(derived, [last(lines[0])]) // symbols)
+            costs.row(name, change, *figures)
 
 
-def of_edit(costs: Costs, size: int, unit: bytes, productions: list[bytes], before: list[bytes], prepared: Prepared, last: Changed) -> int:
-    """The instructions for each symbol that an edit costs after a derivation and the lines before it."""
-    lines, symbols = lines_of(unit, productions, size)
-    return costs.more(prepared(lines, unit) + [b"depth %d" % (LEVELS - 1)] + before, [last(lines[0])]) // symbols
+def first_of_all(change: Change) -> Change:
+    """A change, told as the first edit after a derivation."""
+    told, prepared, last = change
+    return told + ", as the first edit", prepared, last
 
 
 def beside_anew(costs: Costs, sizes: list[int]) -> None:

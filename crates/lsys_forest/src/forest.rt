@@ -352,7 +352,7 @@ impl<A: Kept> Forest<A> {
     pub fn parent(&self, node: NodeId) -> Option<NodeId>
         requires { IsLive self.now node }
         ensures root { node ≡ self.now.root → result ≡ None }
-        ensures parent { node ≢ self.now.root
+        ensures up { node ≢ self.now.root
             → ForNode (now_of self.now) node (λ n. result ≡ Some n.parent) }
         ensures lives { IfSome result (IsLive self.now) }
         ensures sound { IsRooted self.now.root (changes_in self.now) (now_of self.now) }

@@ -60,7 +60,3 @@ pub record AskAlike (s r : System) : Type 0 where
       → candidate_visits r new xs ys ≡ candidate_visits s new xs ys
   pub visits_to : (old : System) (xs ys : List (List LevelSymbol))
       → candidate_visits old r xs ys ≡ candidate_visits old s xs ys
-
--- where no rule has a weight, systems that differ in the seed alone have the same levels and ask alike
-abbrev pub PlainSeedsTellNothing : Type 0
-PlainSeedsTellNothing = (s : System) → HasNoWeights s → (seed : ℕ) → AskAlike s (reseeded seed s)
