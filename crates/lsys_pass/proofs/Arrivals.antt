@@ -16,24 +16,26 @@ use Rattle.lsys_children.specs.Answers.{kept_successors}
 use Rattle.lsys_pass.specs.declared.sizes.Size.{Size}
 use Rattle.lsys_pass.specs.declared.state.PassState.TheVariants.{Level, Done, Failed}
 use Rattle.lsys_pass.specs.Sizes.{symbols_at, opens_at, with_open, with_level, HaveSizes, HaveSizesTo, SizesAt}
-use Rattle.lsys_pass.specs.Stages.{IsStored}
+use Rattle.lsys_pass.specs.Stages.{IsStored, Rests}
 use Rattle.lsys_pass.specs.Passes.{PassView, stage_of, now_in, rest_in, HoldsAt, AllHaveSeats, IsStill, HasFront, FrontAt, IsPass}
+use Rattle.lsys_pass.specs.Moves.{AtLevel}
 use Rattle.lsys_pass.specs.Advances.{IsAskedTo, KeepsRest, Makes, BeginsAnew, Advances, HasLastLevel}
-use Rattle.lsys_pass.proofs.Backing.{rests_at}
+use Rattle.lsys_pass.proofs.Backing.{known_at}
 use Rattle.lsys_pass.proofs.Sized.{closed_same}
-use Rattle.lsys_pass.proofs.Finishing.{starts, ends, starts_first, starts_done}
+use Rattle.lsys_pass.proofs.Finishing.{starts, ends}
+use Rattle.lsys_pass.proofs.Starting.{starts_first, starts_done}
 
 -- 1. it failed
 
-pub failed : (v : PassView) → IsPass v → IsPass (record v { state = Failed })
-failed v h = record {
+pub failed : (v : PassView) → IsPass v → AtLevel v.state → IsPass (record v { state = Failed })
+failed v h at = record {
   stored = h.stored;
   few = h.few;
   unmarked = h.unmarked;
   counted = h.counted;
   sized = h.sized;
   made_sized = tt;
-  holds = rests_at (stage_of v) v.state h.holds;
+  holds = known_at (stage_of v) v.state at h.holds;
   front = tt;
   room = h.room;
 }
@@ -145,12 +147,12 @@ module _ (v v' : PassView) (h : IsPass v) (k : IsKept v v') where
         (subst (SizesAt (now_in v') v'.forest.root v'.next.depth v'.made) (sym state) (subst (HaveSizesTo (now_in v') v'.forest.root v'.made) (sym e.depth) made)) (subst (FrontAt v') (sym state) room)
 
   -- it comes from the last rest to level 0
-  module _ (still : IsStill (stage_of v)) (x : BeginsAnew (stage_of v) (stage_of v')) (made : HaveSizesTo (now_in v') v'.forest.root v'.made 0) where
+  module _ (still : IsStill (stage_of v)) (known : Rests (stage_of v)) (x : BeginsAnew (stage_of v) (stage_of v')) (made : HaveSizesTo (now_in v') v'.forest.root v'.made 0) where
     pub first_pass : v'.state ≡ Level 0 → Advances (stage_of v') 0 → HasFront v' 0 → IsPass v'
     first_pass state a f =
-        come (subst (HoldsAt (stage_of v')) (sym state) (starts_first (stage_of v) (stage_of v') still x a)) (subst (SizesAt (now_in v') v'.forest.root v'.next.depth v'.made) (sym state) made) (subst (FrontAt v') (sym state) f)
+        come (subst (HoldsAt (stage_of v')) (sym state) (starts_first (stage_of v) (stage_of v') still known x a)) (subst (SizesAt (now_in v') v'.forest.root v'.next.depth v'.made) (sym state) made) (subst (FrontAt v') (sym state) f)
 
     pub first_done : v'.state ≡ Done → HasLastLevel (stage_of v') 0 → AllHaveSeats (now_in v') v'.seats → IsPass v'
     first_done state e room =
-        come (subst (HoldsAt (stage_of v')) (sym state) (starts_done (stage_of v) (stage_of v') still x e))
+        come (subst (HoldsAt (stage_of v')) (sym state) (starts_done (stage_of v) (stage_of v') still known x e))
         (subst (SizesAt (now_in v') v'.forest.root v'.next.depth v'.made) (sym state) (subst (HaveSizesTo (now_in v') v'.forest.root v'.made) (sym e.depth) made)) (subst (FrontAt v') (sym state) room)

@@ -5,8 +5,7 @@ use Rattle.std.proofs.lemmas.List.{append-nil}
 use Rattle.lsys_spec.specs.Rows.{In, AreApart}
 use Rattle.lsys_spec.specs.Systems.{System}
 use Rattle.lsys_level.specs.Spots.{spots_at}
-use Rattle.lsys_match.specs.Kept.{Kept}
-use Rattle.lsys_forest.specs.Groves.{Grove, IsLive, now_of, changes_in}
+use Rattle.lsys_forest.specs.Groves.{Grove, now_of, changes_in}
 use Rattle.lsys_forest.specs.Rows.{index_in, level_nodes, complete_levels, level_of_node, place_of_node}
 use Rattle.lsys_forest.proofs.RowLemmas.{In_append, In_left, In_right, level_apart}
 use Rattle.lsys_forest.proofs.SoundLemmas.{some_of}

@@ -42,7 +42,6 @@ use Rattle.lsys_pass.specs.Passes.{PassView, stage_of, repair_of, IsPass}
 use Rattle.lsys_pass.specs.Passes as P
 use Rattle.lsys_pass.specs.Fresh.{row_of, HasFound}
 use Rattle.lsys_pass.specs.Others.{rules_on_level, AreUnlike, IsOthers, ListsOthers}
-use Rattle.lsys_pass.proofs.Backing.{rests_at}
 use Rattle.lsys_pass.proofs.Before.{answer_lives, placed, is_below}
 
 -- 1. the nodes with other rules
@@ -71,7 +70,7 @@ rules_stay (x ∷ xs) (y ∷ ys) same some none = cc
 
 module _ (v : PassView) (t : ℕ) (h : IsPass v) (beside readers : List ℕ) (f : HasFound v t beside readers) where
   rests : Rests (stage_of v)
-  rests = rests_at (stage_of v) v.state h.holds
+  rests = f.rest
 
   pub sound_now : IsRooted v.forest.root (changes_in v.forest) (P.now_in v)
   sound_now = AreSound-now v.forest.root (changes_in v.forest) (P.now_in v) h.stored.sound
@@ -141,7 +140,7 @@ module _ (v : PassView) (t : ℕ) (h : IsPass v) (beside readers : List ℕ) (f 
   reader_row : (k : ℕ) → In k readers → In k (row_of v t)
   reader_row k i =
       let u = (f.found.readers_are k).0 i in
-      let w = reader_there (repair_of v t) answers_right k u.0.node ((rests.read k u.0.node).0 u.0.read) (found_were u.0.node u.0.among) in
+      let w = reader_there (repair_of v t) answers_right k u.0.node ((rests.read refl k u.0.node).0 u.0.read) (found_were u.0.node u.0.among) in
       elim (is_in k (row_of v t)) [ inl on ↦ on | inr n ↦ absurd (u.1 (inl (inl ((f.front.differs.gone k).1 (w, n))))) ]
 
   among_row : (k : ℕ) → IsAmong v.front.changes v.front.turned beside readers k → In k (row_of v t)
@@ -181,7 +180,7 @@ module _ (v : PassView) (t : ℕ) (h : IsPass v) (beside readers : List ℕ) (f 
         looked = f.looks.looked;
         looked_are = f.looks.looked_are;
         seated = λ p k e. rests.seated t p k e;
-        read = rests.read;
+        read = rests.read refl;
         readers = λ reader seen read on. reader_there (repair_of v t) answers_right reader seen read on;
         rules = λ k m i seen. elim (marked_or_not (are_alike v.system v.next t m.name (length m.params))) [
           | inl e ↦ inr (same_test k m ∙ e)

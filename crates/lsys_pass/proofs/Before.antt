@@ -1,5 +1,5 @@
 -- What the old system asked: its questions by their places, and the nodes that keep its answers.
-use Rattle.std.proofs.Common.{◌≡◌, ◌+◌, ◌<◌, ℕ, zero, suc, false, List, [], ◌∷◌, length, Option, Some, None, Ok, refl, sym, ap, ◌∙◌, subst, inl, inr, arith, slice_get, get_or}
+use Rattle.std.proofs.Common.{◌≡◌, ◌+◌, ◌<◌, ℕ, zero, suc, Bool, false, List, [], ◌∷◌, length, Option, Some, None, Ok, refl, sym, ap, ◌∙◌, subst, inl, inr, arith, slice_get, get_or}
 use Rattle.std.specs.Prelude.{◌-◌, not, option_map}
 use Rattle.std.specs.Option.{option_and_then}
 use Rattle.std.proofs.lemmas.Bool.{cases_lt}
@@ -130,7 +130,7 @@ kept_rules (b ∷ bs) right o a e h =
     let same : h.0 ≡ a = same_Some h.0 a (sym h.1 ∙ e) in
     (λ f. cc, subst right same h.2)
 
-module _ (s : System) (limit : ℕ) (m : Nodes Kept) (root : ℕ) (store : Store) (reads : Relations) (seats : List Seat) (r : IsResting s limit m root store reads seats) where
+module _ {listed : Bool} (s : System) (limit : ℕ) (m : Nodes Kept) (root : ℕ) (store : Store) (reads : Relations) (seats : List Seat) (r : IsResting listed s limit m root store reads seats) where
   pub count_is : length (levels_meant s limit) ≡ s.depth + 1
   count_is = level_count s limit s.depth (levels_meant s limit) r.spelled r.is
 

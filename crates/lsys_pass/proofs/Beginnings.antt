@@ -97,16 +97,16 @@ makes_first s limit o m root x before told room e f h spelled =
 
 module _ (v : PassView) (h : WasStill v) where
   pub still : IsStill (record (stage_of v) { next = v.system })
-  still = h.holds
+  still = h.pass.holds
 
   pub was_now : P.rest_in v ≡ now_in v
   was_now = ap (λ (cs : List (Change Kept)). undone cs (now_in v)) still.changes
 
-  rests_now : IsResting v.system v.limit (now_in v) v.forest.root v.store v.reads v.seats
-  rests_now = subst (λ (m : Nodes Kept). IsResting v.system v.limit m v.forest.root v.store v.reads v.seats) was_now still.rest
+  rests_now : IsResting v.listed v.system v.limit (now_in v) v.forest.root v.store v.reads v.seats
+  rests_now = subst (λ (m : Nodes Kept). IsResting v.listed v.system v.limit m v.forest.root v.store v.reads v.seats) was_now still.rest
 
   sound_rest : IsRooted v.forest.root [] (now_in v)
-  sound_rest = subst (λ (cs : List (Change Kept)). IsRooted v.forest.root cs (now_in v)) still.changes (AreSound-now v.forest.root (changes_in v.forest) (now_in v) h.stored.sound)
+  sound_rest = subst (λ (cs : List (Change Kept)). IsRooted v.forest.root cs (now_in v)) still.changes (AreSound-now v.forest.root (changes_in v.forest) (now_in v) h.pass.stored.sound)
 
   pub was_once : AreOnce (kins (now_in v)) v.forest.root
   was_once = rests_now.once
@@ -148,6 +148,7 @@ module _ (v : PassView) (f : Grove Kept) (seats : List Seat) (sizes made : List 
     was = b.rest;
     store = refl;
     reads = refl;
+    listed = refl;
     renewed = refl;
     born = refl;
     same_seats = s.same;
@@ -155,6 +156,7 @@ module _ (v : PassView) (f : Grove Kept) (seats : List Seat) (sizes made : List 
 
   pub failed_still : IsPass v → v.state ≡ Failed → sizes ≡ v.sizes → IsPass v'
   failed_still h state same = still_failed v v' h (record {
+    was_failed = state;
     failed = state;
     stored = record {
       sound = b.sound;
@@ -210,10 +212,10 @@ module _ (v : PassView) (f : Grove Kept) (seats : List Seat) (sizes made : List 
         subst (λ (m : Nodes Kept). MakesFirst v.next v.limit m (now_in v') f.root told) (sym (b.rest ∙ was_now v h))
         (subst (λ r. MakesFirst v.next v.limit (now_in v) (now_in v') r told) (sym b.root) x)
 
-    rests : IsResting v.system v.limit o f.root v.store v.reads v.seats
+    rests : IsResting v.listed v.system v.limit o f.root v.store v.reads v.seats
     rests =
-        subst (λ r. IsResting v.system v.limit o r v.store v.reads v.seats) (sym b.root)
-        (subst (λ (m : Nodes Kept). IsResting v.system v.limit m v.forest.root v.store v.reads v.seats) (sym b.rest) (still v h).rest)
+        subst (λ r. IsResting v.listed v.system v.limit o r v.store v.reads v.seats) (sym b.root)
+        (subst (λ (m : Nodes Kept). IsResting v.listed v.system v.limit m v.forest.root v.store v.reads v.seats) (sym b.rest) (still v h).rest)
 
     wanted : HasWanted v.next.numbering v.next.seed (now_in v') f.root v.next.axiom_string
     wanted = y.children.wanted f.root (inl refl)
@@ -306,7 +308,7 @@ module _ (v : PassView) (f : Grove Kept) (seats : List Seat) (sizes made : List 
 
 -- where the pass at a first level came from
 pub first_origin : (v w : PassView) → WasStill v → Goes (stage_of v) (stage_of w) 0 → Origin w 0
-first_origin v w h g = at_first (record v { state = Rest; next = v.system }) refl h.holds (record {
+first_origin v w h g = at_first (record v { state = Rest; next = v.system }) refl h.pass.holds h.rest (record {
   next = refl;
   run = record {
     system = g.run.system;
@@ -315,6 +317,7 @@ first_origin v w h g = at_first (record v { state = Rest; next = v.system }) ref
     was = g.run.was;
     store = g.run.store;
     reads = g.run.reads;
+    listed = g.run.listed;
     renewed = g.run.renewed;
     born = g.run.born;
     same_seats = g.run.same_seats;

@@ -1,6 +1,6 @@
 -- A pass at its end.
-use Rattle.std.proofs.Common.{◌≡◌, ◌+◌, ◌<◌, ◌≤◌, ◌^◌, ◌&&◌, ◌||◌, ℕ, List, [], length, Some, refl, sym, ap, ◌∙◌, subst, arith, slice_get}
-use Rattle.std.specs.Prelude.{◌-◌, IsSome, not}
+use Rattle.std.proofs.Common.{◌≡◌, ◌+◌, ◌<◌, ◌≤◌, ◌^◌, ℕ, Bool, true, List, [], length, Some, refl, sym, ap, ◌∙◌, subst, arith, slice_get}
+use Rattle.std.specs.Prelude.{◌-◌, IsSome}
 use Rattle.lsys_pass.proofs.Before.{answer_lives}
 use Rattle.lsys_forest.proofs.RowLemmas.{level_apart}
 use Rattle.std.specs.Option.{option_and_then}
@@ -14,8 +14,7 @@ use Rattle.lsys_walks.specs.Stores.{Store}
 use Rattle.lsys_match.specs.Kept.{Kept}
 use Rattle.lsys_match.specs.Derivations.{IsCount}
 use Rattle.lsys_match.specs.KeptAnswers.{StaysMade}
-use Rattle.lsys_reads.specs.Rows.{has}
-use Rattle.lsys_reads.specs.Relations.{Relations, is_settled, is_pending}
+use Rattle.lsys_reads.specs.Relations.{Relations}
 use Rattle.lsys_forest.specs.Nodes.{Nodes}
 use Rattle.lsys_forest.specs.Changes.{Change, undone}
 use Rattle.lsys_forest.specs.Answers.{answer_of, answers, kept_by, LiveApart, FreesAllBut}
@@ -36,6 +35,7 @@ use Rattle.lsys_pass.specs.declared.work.Work.{Work}
 use Rattle.lsys_pass.specs.declared.sizes.Sizes.{Sizes}
 use Rattle.lsys_pass.specs.Sizes.{HaveSizes, HaveSizesTo, SizesAt}
 use Rattle.lsys_pass.proofs.Sized.{sized_stays, all_sized}
+use Rattle.lsys_pass.specs.Read.{SettlesReads}
 use Rattle.lsys_pass.specs.Rests.{IsResting}
 use Rattle.lsys_pass.specs.Stages.{IsStored, IsDone}
 use Rattle.lsys_pass.specs.Passes as P
@@ -149,16 +149,16 @@ module _ (v : PassView) (h : IsPass v) (state : v.state ≡ Done) where
         ∙ ap (neighbours_on m' (level_nodes m' f'.root u)) same ∙ ap (λ r. neighbours_on m' (level_nodes m' r u) p) c.root
         ∙ closed_neighbours (now_in v) m' v.forest.root (changes_in v.forest) sound c.stay c.only u p
 
-    pub closed_pass : (rd' : Relations) (seats' : List Seat) (z : Sizes) (sys : System) (w : Work) (answers' : ℕ) → sys ≡ v.next
-        → ((reader seen : ℕ) → is_settled rd' reader seen ≡ ((not (has v.renewed reader) && (not (has v.dropped reader) && is_settled v.reads reader seen)) || is_pending v.reads reader seen)) → rd'.pending ≡ []
+    pub closed_pass : (rd' : Relations) (listed' : Bool) (seats' : List Seat) (z : Sizes) (sys : System) (w : Work) (answers' : ℕ) → sys ≡ v.next
+        → listed' ≡ v.listed → (v.listed ≡ true → SettlesReads v.reads rd' v.renewed v.dropped) → rd'.pending ≡ []
         → ((k : ℕ) → In k v.moved → neighbours_at seats' k ≡ neighbours_in f' k) → ((k : ℕ) → (In k v.moved → ⊥) → neighbours_at seats' k ≡ neighbours_at v.seats k) → SameMarks v.seats seats' → KeepsSeats v.seats seats'
-        → answers' ≡ v.answers - length v.dropped + v.born → IsCleared w → z.rest.items ≡ v.made → z.made.items ≡ [] → IsPass (resting f' st' rd' seats' z sys v.limit w answers')
-    closed_pass rd' seats' z sys w answers' e settled quiet seated others marks keeps count clear sizes none =
-        is_resting f' st' rd' seats' z sys v.limit w answers' stored (let f = h.few in let l = c.live in omega (arith, f, l)) (λ k. marks k ∙ h.unmarked k)
+        → answers' ≡ v.answers - length v.dropped + v.born → IsCleared w → z.rest.items ≡ v.made → z.made.items ≡ [] → IsPass (resting f' st' rd' listed' seats' z sys v.limit w answers')
+    closed_pass rd' listed' seats' z sys w answers' e same_listed settled quiet seated others marks keeps count clear sizes none =
+        is_resting f' st' rd' listed' seats' z sys v.limit w answers' stored (let f = h.few in let l = c.live in omega (arith, f, l)) (λ k. marks k ∙ h.unmarked k)
         (count ∙ counts ∙ ap (λ (z : System). length (questions z (levels_meant z v.limit))) (sym e))
-        (subst (λ (z : System). IsResting z v.limit (rest_of f') f'.root st' rd' seats') (sym e)
-        (subst (λ r. IsResting v.next v.limit (rest_of f') r st' rd' seats') (sym c.root)
-        (subst (λ (m : Nodes Kept). IsResting v.next v.limit m v.forest.root st' rd' seats') (sym (ap (λ (cs : List (Change Kept)). undone cs m') c.rest)) rests)))
+        (subst (λ (z : System). IsResting listed' z v.limit (rest_of f') f'.root st' rd' seats') (sym e)
+        (subst (λ r. IsResting listed' v.next v.limit (rest_of f') r st' rd' seats') (sym c.root)
+        (subst (λ (m : Nodes Kept). IsResting listed' v.next v.limit m v.forest.root st' rd' seats') (sym (ap (λ (cs : List (Change Kept)). undone cs m') c.rest)) rests)))
         c.rest quiet clear
         (subst (HaveSizes (rest_of f') f'.root) (sym sizes) (subst (λ r. HaveSizes (rest_of f') r v.made) (sym c.root) (subst (λ (m : Nodes Kept). HaveSizes m v.forest.root v.made) (sym (ap (λ (cs : List (Change Kept)). undone cs m') c.rest)) sized_all))) none
         (subst (λ (m : Nodes Kept). AllHaveSeats m seats') (sym (ap (λ (cs : List (Change Kept)). undone cs m') c.rest)) have_seats)
@@ -184,10 +184,10 @@ module _ (v : PassView) (h : IsPass v) (state : v.state ≡ Done) where
         counts : v.answers - length v.dropped + v.born ≡ length (questions v.next (levels_meant v.next v.limit))
         counts = let a = total in let b = few_dropped in omega (arith, a, b)
 
-        rests : IsResting v.next v.limit m' v.forest.root st' rd' seats'
+        rests : IsResting listed' v.next v.limit m' v.forest.root st' rd' seats'
         rests =
             closed_rests (stage_of v) done m' st' rd' seats' (changes_in v.forest) sound c.stay c.only stays
-            (closed_reads (stage_of v) done m' st' rd' settled c.stay c.only stays)
+            (λ known. (let here = sym same_listed ∙ known in closed_reads (stage_of v) done m' st' rd' (settled here) c.stay c.only stays here))
             (λ t p k l i m. seated k m ∙ neighbours_there t p k l i) others
 
   -- what is counted, as the other view of the pass tells it

@@ -1,5 +1,5 @@
 -- A pass that is closed: the nodes that are reached are the levels of the new system.
-use Rattle.std.proofs.Common.{◌≡◌, ◌≢◌, ◌⊎◌, ◌↔◌, ◌+◌, ◌<◌, ◌≤◌, ◌&&◌, ◌||◌, ℕ, zero, suc, Bool, true, false, List, [], ◌∷◌, ◌++◌, length, map, Option, Some, None, refl, sym, ap, ◌∙◌, subst, inl, inr, arith, slice_get}
+use Rattle.std.proofs.Common.{◌≡◌, ◌≢◌, ◌⊎◌, ◌+◌, ◌<◌, ◌≤◌, ◌&&◌, ◌||◌, ℕ, zero, suc, Bool, true, false, List, [], ◌∷◌, ◌++◌, length, map, Option, Some, None, refl, sym, ap, ◌∙◌, subst, inl, inr, arith, slice_get}
 use Rattle.std.specs.Prelude.{◌-◌, IsSome, not, option_map}
 use Rattle.std.specs.Option.{option_and_then}
 use Rattle.std.proofs.lemmas.Bool.{cases_lt}
@@ -32,6 +32,7 @@ use Rattle.lsys_reads.specs.Meant.{levels_meant}
 use Rattle.lsys_reads.specs.declared.seat.Seat.{Seat}
 use Rattle.lsys_reads.specs.Neighbours.{Neighbours, neighbours_on}
 use Rattle.lsys_reads.specs.Seats.{neighbours_at}
+use Rattle.lsys_pass.specs.Readers.{AreReaders}
 use Rattle.lsys_pass.specs.Rests.{IsResting}
 use Rattle.lsys_pass.specs.Stages.{Stage, was, IsDone}
 use Rattle.lsys_pass.proofs.Stores.{answered_stays, tags_stay}
@@ -222,7 +223,7 @@ from_pending false false false true h = refl
 module _ (s : Stage) (d : IsDone s) (m' : Nodes Kept) (st : Store) (rd : Relations)
     (settle : (reader seen : ℕ) → is_settled rd reader seen ≡ ((not (has s.renewed reader) && (not (has s.dropped reader) && is_settled s.reads reader seen)) || is_pending s.reads reader seen))
     (stay : (k : ℕ) → Reached s.now s.root k → m' k ≡ s.now k) (only : (k : ℕ) → IsSome (m' k) → Reached s.now s.root k)
-    (same : (k : ℕ) (a : Kept) → answer_at m' k ≡ Some a → StaysMade s.store st a) where
+    (same : (k : ℕ) (a : Kept) → answer_at m' k ≡ Some a → StaysMade s.store st a) (known : s.listed ≡ true) where
   moved : (reader seen : ℕ) (a : Kept) → Reached s.now s.root reader → answer_at s.now reader ≡ Some a → In seen (tags_read s.store a) → HasRead m' st reader seen
   moved reader seen a r e i =
       let here : answer_at m' reader ≡ Some a = ap (option_and_then answer_of) (stay reader r) ∙ e in
@@ -246,20 +247,20 @@ module _ (s : Stage) (d : IsDone s) (m' : Nodes Kept) (st : Store) (rd : Relatio
 
   to : (reader seen : ℕ) → Way (has s.renewed reader) (has s.dropped reader) (is_settled s.reads reader seen) (is_pending s.reads reader seen) → HasRead m' st reader seen
   to reader seen (pending p) =
-      let r = (d.read reader seen).0 p in
+      let r = (d.read known reader seen).0 p in
       let u = d.renewed_are reader r.0 in
       moved reader seen r.1.answer (on_reached s.now s.root u.0 reader u.2) r.1.kept r.1.among
-  to reader seen (old g e o) = let w = (d.rest.read reader seen).0 o in old_read reader seen g e w (d.kept reader w.answer w.kept)
+  to reader seen (old g e o) = let w = (d.rest.read refl reader seen).0 o in old_read reader seen g e w (d.kept reader w.answer w.kept)
 
   from_by : (reader seen : ℕ) (a : Kept) → Reached s.now s.root reader → answer_at s.now reader ≡ Some a → In seen (tags_read s.store a) → In reader s.renewed ⊎ (In reader s.renewed → ⊥) → In reader s.renewed ⊎ (answer_at (was s) reader ≡ Some a)
       → ((not (has s.renewed reader) && (not (has s.dropped reader) && is_settled s.reads reader seen)) || is_pending s.reads reader seen) ≡ true
-  from_by reader seen a r e i (inl j) q = from_pending (has s.renewed reader) (has s.dropped reader) (is_settled s.reads reader seen) (is_pending s.reads reader seen) ((d.read reader seen).1 (j, record { answer = a; kept = e; among = i }))
+  from_by reader seen a r e i (inl j) q = from_pending (has s.renewed reader) (has s.dropped reader) (is_settled s.reads reader seen) (is_pending s.reads reader seen) ((d.read known reader seen).1 (j, record { answer = a; kept = e; among = i }))
   from_by reader seen a r e i (inr out) (inl j) = absurd (out j)
   from_by reader seen a r e i (inr out) (inr w) =
       from_old (has s.renewed reader) (has s.dropped reader) (is_settled s.reads reader seen) (is_pending s.reads reader seen) (none_in s.renewed reader out)
-      (none_in s.dropped reader (λ j. none-some a (sym (d.dropped_are reader j r) ∙ e))) ((d.rest.read reader seen).1 (record { answer = a; kept = w; among = i }))
+      (none_in s.dropped reader (λ j. none-some a (sym (d.dropped_are reader j r) ∙ e))) ((d.rest.read refl reader seen).1 (record { answer = a; kept = w; among = i }))
 
-  pub closed_reads : (reader seen : ℕ) → (is_settled rd reader seen ≡ true) ↔ HasRead m' st reader seen
+  pub closed_reads : AreReaders m' st rd
   closed_reads reader seen = (
     λ h. to reader seen (way (has s.renewed reader) (has s.dropped reader) (is_settled s.reads reader seen) (is_pending s.reads reader seen) (sym (settle reader seen) ∙ h)),
     λ h.
@@ -288,10 +289,10 @@ module _ (s : Stage) (d : IsDone s) (changes : List (Change Kept)) (sound : IsRo
         | inr w ↦ absurd (none-some a (sym (d.rest.others s.root (inl refl)) ∙ w))
       ]
 
-module _ (s : Stage) (d : IsDone s) (m' : Nodes Kept) (st : Store) (rd : Relations) (seats : List Seat) (changes : List (Change Kept)) (sound : IsRooted s.root changes s.now)
+module _ {listed : Bool} (s : Stage) (d : IsDone s) (m' : Nodes Kept) (st : Store) (rd : Relations) (seats : List Seat) (changes : List (Change Kept)) (sound : IsRooted s.root changes s.now)
     (stay : (k : ℕ) → Reached s.now s.root k → m' k ≡ s.now k) (only : (k : ℕ) → IsSome (m' k) → Reached s.now s.root k)
     (same : (k : ℕ) (a : Kept) → answer_at m' k ≡ Some a → StaysMade s.store st a)
-    (read : (reader seen : ℕ) → (is_settled rd reader seen ≡ true) ↔ HasRead m' st reader seen)
+    (read : listed ≡ true → AreReaders m' st rd)
     (seated : (t p k : ℕ) → t ≤ s.next.depth → slice_get (level_nodes s.now s.root t) p ≡ Some k → In k s.moved → neighbours_at seats k ≡ neighbours_on s.now (level_nodes s.now s.root t) p)
     (others : (k : ℕ) → (In k s.moved → ⊥) → neighbours_at seats k ≡ neighbours_at s.seats k) where
   there : (t p k : ℕ) → slice_get (level_nodes m' s.root t) p ≡ Some k → slice_get (level_nodes s.now s.root t) p ≡ Some k
@@ -319,7 +320,7 @@ module _ (s : Stage) (d : IsDone s) (m' : Nodes Kept) (st : Store) (rd : Relatio
     ]
   ]
 
-  pub closed_rests : IsResting s.next s.limit m' s.root st rd seats
+  pub closed_rests : IsResting listed s.next s.limit m' s.root st rd seats
   closed_rests = record {
     spelled = d.spelled;
     is = d.is;

@@ -21,7 +21,8 @@ use Rattle.lsys_pass.specs.Moves.{SameRun, ArrivesAt, Follows, Finishes}
 use Rattle.lsys_pass.specs.Advances.{Makes, Advances, HasLastLevel}
 use Rattle.lsys_pass.specs.Fresh.{WasAsked, row_of, Goes, HasListsBefore, IsReadyToAsk, IsLast, Origin}
 use Rattle.lsys_pass.proofs.Sized.{closed_same}
-use Rattle.lsys_pass.proofs.Finishing.{starts, ends, starts_first, starts_done}
+use Rattle.lsys_pass.proofs.Finishing.{starts, ends}
+use Rattle.lsys_pass.proofs.Starting.{starts_first, starts_done}
 use Rattle.lsys_pass.proofs.Arrivals.{made_more}
 use Rattle.lsys_pass.proofs.Going.{goes_on, makes, begins}
 
@@ -38,12 +39,12 @@ module _ (v v' : PassView) (t : ℕ) (pass : IsPass v') (g : Goes (stage_of v) (
       let whole = goes_on (stage_of w) (stage_of v) (stage_of v') t before g in
       let made = subst (Makes (stage_of w) (stage_of v')) e (makes (stage_of v') t x.lists (stage_of w) whole) in
       subst (IsAtLevel (stage_of v')) (sym e) (starts (stage_of w) (stage_of v') u a.asked sound sound' made (subst (Advances (stage_of v')) e x.advances))
-  at_level (Origin.at_first w e still before) x =
+  at_level (Origin.at_first w e still known before) x =
       let whole = goes_on (record (stage_of w) { next = v.next }) (stage_of v) (stage_of v') t before g in
       let first = subst (Goes (record (stage_of w) { next = v.next }) (stage_of v')) e whole in
       let lists = subst (λ u. HasListsBefore (stage_of v') (u + 1)) e x.lists in
       let begun = begins (stage_of w) (stage_of v') v.next first lists in
-      subst (IsAtLevel (stage_of v')) (sym e) (starts_first (stage_of w) (stage_of v') still begun (subst (Advances (stage_of v')) e x.advances))
+      subst (IsAtLevel (stage_of v')) (sym e) (starts_first (stage_of w) (stage_of v') still known begun (subst (Advances (stage_of v')) e x.advances))
 
   at_end : Origin v t → IsLast v' t → IsDone (stage_of v')
   at_end (Origin.behind w u e a before) x =
@@ -51,12 +52,12 @@ module _ (v v' : PassView) (t : ℕ) (pass : IsPass v') (g : Goes (stage_of v) (
       let whole = goes_on (stage_of w) (stage_of v) (stage_of v') t before g in
       let made = subst (Makes (stage_of w) (stage_of v')) e (makes (stage_of v') t x.lists (stage_of w) whole) in
       ends (stage_of w) (stage_of v') u a.asked sound sound' made (subst (HasLastLevel (stage_of v')) e x.ends)
-  at_end (Origin.at_first w e still before) x =
+  at_end (Origin.at_first w e still known before) x =
       let whole = goes_on (record (stage_of w) { next = v.next }) (stage_of v) (stage_of v') t before g in
       let first = subst (Goes (record (stage_of w) { next = v.next }) (stage_of v')) e whole in
       let lists = subst (λ u. HasListsBefore (stage_of v') (u + 1)) e x.lists in
       let begun = begins (stage_of w) (stage_of v') v.next first lists in
-      starts_done (stage_of w) (stage_of v') still begun (subst (HasLastLevel (stage_of v')) e x.ends)
+      starts_done (stage_of w) (stage_of v') still known begun (subst (HasLastLevel (stage_of v')) e x.ends)
 
   -- the pass itself
   pub level_pass : Origin v t → HaveSizesTo (now_in v') v'.forest.root v'.made t → IsReadyToAsk v' t → IsPass (record v' { state = Level t })

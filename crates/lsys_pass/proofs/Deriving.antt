@@ -1,5 +1,5 @@
 -- A pass at rest has the levels of its system.
-use Rattle.std.proofs.Common.{◌≡◌, ◌+◌, ◌-◌, ◌<◌, ◌≤◌, ◌⊎◌, ℕ, zero, suc, List, [], ◌∷◌, length, map, get_or, slice_get, Option, Some, None, refl, sym, ap, ◌∙◌, subst, inl, inr, arith}
+use Rattle.std.proofs.Common.{◌≡◌, ◌+◌, ◌-◌, ◌<◌, ◌≤◌, ◌⊎◌, ℕ, zero, suc, Bool, List, [], ◌∷◌, length, map, get_or, slice_get, Option, Some, None, refl, sym, ap, ◌∙◌, subst, inl, inr, arith}
 use Rattle.std.specs.Prelude.{sum_by, IsSome}
 use Rattle.std.proofs.lemmas.Bool.{cases_lt}
 use Rattle.std.proofs.lemmas.List.{length-map, length-take-le, get_or_past}
@@ -72,7 +72,7 @@ same_sums {A = A} (z ∷ zs) (x ∷ xs) h =
 
 -- 2. the last rest
 
-module _ (s : System) (limit : ℕ) (m : Nodes Kept) (root : ℕ) (store : Store) (reads : Relations) (seats : List Seat) (r : IsResting s limit m root store reads seats) where
+module _ {listed : Bool} (s : System) (limit : ℕ) (m : Nodes Kept) (root : ℕ) (store : Store) (reads : Relations) (seats : List Seat) (r : IsResting listed s limit m root store reads seats) where
   many : length (levels_meant s limit) ≡ s.depth + 1
   many = level_count s limit s.depth (levels_meant s limit) r.spelled r.is
 
@@ -110,11 +110,11 @@ module _ (v : PassView) (h : IsPass v) (q : v.state ≡ Rest) where
   pub was_now : rest_in v ≡ now_in v
   was_now = ap (λ (cs : List (Change Kept)). undone cs (now_in v)) still.changes
 
-  pub rest_now : IsResting v.system v.limit (now_in v) v.forest.root v.store v.reads v.seats
-  rest_now = subst (λ (m : Nodes Kept). IsResting v.system v.limit m v.forest.root v.store v.reads v.seats) was_now still.rest
+  pub rest_now : IsResting v.listed v.system v.limit (now_in v) v.forest.root v.store v.reads v.seats
+  rest_now = subst (λ (m : Nodes Kept). IsResting v.listed v.system v.limit m v.forest.root v.store v.reads v.seats) was_now still.rest
 
 module _ (v : PassView) (h : IsPass v) (q : IsQuiet v) where
-  abbrev r : IsResting v.system v.limit (now_in v) v.forest.root v.store v.reads v.seats
+  abbrev r : IsResting v.listed v.system v.limit (now_in v) v.forest.root v.store v.reads v.seats
   r = rest_now v h q.state
 
   abbrev xs : List (List LevelSymbol)

@@ -25,7 +25,6 @@ use Rattle.lsys_pass.specs.Moves.{AtLevel, SameRun, IsBack, StepsOver, MovesOnce
 use Rattle.lsys_pass.specs.Beginnings.{Begun}
 use Rattle.lsys_pass.specs.Spent.{visits_in, spent_visits, AllPending}
 use Rattle.lsys_pass.specs.Edits.{IsEdited}
-use Rattle.lsys_pass.proofs.Asking.{at}
 use Rattle.lsys_pass.proofs.Closing.{extends}
 use Rattle.lsys_pass.proofs.Visiting.{stepped_visits, visits_first, finished_visits, renewed_few, renewed_fewer, visits_few, visits_fewer}
 

@@ -1,6 +1,6 @@
 -- A level that becomes the last one.
-use Rattle.std.proofs.Common.{◌≡◌, ◌⊎◌, ◌+◌, ◌-◌, ◌<◌, ◌≤◌, ◌^◌, ℕ, zero, suc, List, [], ◌∷◌, ◌++◌, length, map, Option, Some, None, Result, Ok, Err, refl, sym, ap, ◌∙◌, subst, inl, inr, arith, slice_get, append-nil}
-use Rattle.std.specs.Prelude.{IsSome, OnOk, option_map}
+use Rattle.std.proofs.Common.{◌≡◌, ◌⊎◌, ◌+◌, ◌-◌, ◌<◌, ◌≤◌, ◌^◌, ℕ, zero, suc, List, [], ◌∷◌, ◌++◌, length, map, Option, Some, None, Ok, refl, sym, ap, ◌∙◌, subst, inl, inr, arith, slice_get}
+use Rattle.std.specs.Prelude.{option_map}
 use Rattle.std.specs.Option.{option_and_then}
 use Rattle.std.proofs.Math.Path.{fun_ext}
 use Rattle.std.proofs.lemmas.Bool.{cases_lt}
@@ -8,18 +8,17 @@ use Rattle.std.proofs.lemmas.Option.{none-some, same_Some}
 use Rattle.lsys_spec.specs.Rows.{In, AreApart, first_in}
 use Rattle.lsys_spec.specs.Meaning.{meaning, meaning_to}
 use Rattle.lsys_spec.specs.Standings.{mate_at}
-use Rattle.lsys_laws.specs.Nodes.{Kin, Kins, AreOnce}
+use Rattle.lsys_laws.specs.Nodes.{Kins, AreOnce}
 use Rattle.lsys_laws.specs.Seams.{node_before}
 use Rattle.lsys_laws.proofs.UpTo.{level_count}
 use Rattle.lsys_level.specs.Spots.{Spotted, named}
 use Rattle.lsys_match.specs.Kept.{Kept}
 use Rattle.lsys_forest.specs.Nodes.{Node, Nodes}
-use Rattle.lsys_forest.specs.Groves.{Grove, AreSound, IsRooted, IsLive, ReachedIn, Reached, now_of, rest_of, changes_in}
-use Rattle.lsys_forest.specs.Rows.{kids_below, level_nodes, level_spots, complete_levels}
+use Rattle.lsys_forest.specs.Groves.{Grove, IsRooted, ReachedIn, Reached, now_of, rest_of, changes_in}
+use Rattle.lsys_forest.specs.Rows.{kids_below, level_nodes, level_spots}
 use Rattle.lsys_forest.proofs.RowLemmas.{In_append, In_left, In_right, apart_append, level_depth, level_apart}
 use Rattle.lsys_forest.proofs.SoundLemmas.{AreSound-now, AreSound-then}
-use Rattle.lsys_forest.proofs.ViewLemmas.{are_told}
-use Rattle.lsys_reads.specs.Lineages.{kin_of, kins}
+use Rattle.lsys_reads.specs.Lineages.{kins}
 use Rattle.lsys_reads.specs.Levels.{HaveLevels, answer_at}
 use Rattle.lsys_reads.specs.Meant.{levels_meant, meant_to}
 use Rattle.lsys_reads.specs.Neighbours.{Neighbours, neighbours_on}
@@ -32,17 +31,13 @@ use Rattle.lsys_front.specs.Ends.{ended_node, AreEnded, is_answered, answered_in
 use Rattle.lsys_front.specs.LastLevels.{IsLevelEnded, IsBehindAll, IsLastLevel, HadAnswerBehind, HasAllBehind, all_below}
 use Rattle.lsys_front.proofs.RowsBelow.{filter_in, in_filter, filter_apart, answered, is_answered_by}
 use Rattle.lsys_front.proofs.LastLevels.{is_ended, is_bare, has_behind}
-use Rattle.lsys_front.specs.Losses.{LosesOnly}
-use Rattle.lsys_pass.specs.declared.state.PassState.TheVariants.{Failed}
 use Rattle.lsys_pass.specs.Lasts.{dropped_at_end}
 use Rattle.lsys_pass.specs.Stages.{Stage, Rests}
 use Rattle.lsys_pass.specs.Advances.{KeepsRest, HasLastLevel}
 use Rattle.lsys_pass.specs.Passes.{PassView, stage_of, now_in, rest_in, repair_of, IsPass}
 use Rattle.lsys_pass.specs.Fresh.{row_of, Goes, HasListsBefore, HasFound, IsLast}
-use Rattle.lsys_pass.proofs.Backing.{rests_at}
 use Rattle.lsys_pass.proofs.Before.{reached_on, no_more, count_is, is_below, placed, answer_lives}
 use Rattle.lsys_pass.proofs.Closing.{on_reached}
-use Rattle.lsys_pass.proofs.Failing.{still_failed, stored_less}
 
 -- 1. the level ends
 
@@ -138,12 +133,12 @@ neighbours_by xs row p = record {
 
 module _ (v : PassView) (t : ℕ) (beside readers : List ℕ) (h : IsPass v) (found : HasFound v t beside readers) where
   rests : Rests (stage_of v)
-  rests = rests_at (stage_of v) v.state h.holds
+  rests = found.rest
 
   sound_now : IsRooted v.forest.root (changes_in v.forest) (now_in v)
   sound_now = AreSound-now v.forest.root (changes_in v.forest) (now_in v) found.made.spots.sound
 
-  sound_was : IsRooted v.forest.root [] (rest_in v)
+  pub sound_was : IsRooted v.forest.root [] (rest_in v)
   sound_was = AreSound-then v.forest.root (changes_in v.forest) (now_in v) found.made.spots.sound
 
   pub is_last_level : IsLastLevel (repair_of v t) v.front.changes
@@ -294,6 +289,7 @@ module _ (v : PassView) (t : ℕ) (beside readers : List ℕ) (h : IsPass v) (fo
       was = x.rest;
       store = refl;
       reads = refl;
+      listed = refl;
       renewed = refl;
       born = refl;
       same_seats = λ k. refl;
@@ -398,79 +394,3 @@ module _ (v : PassView) (t : ℕ) (beside readers : List ℕ) (h : IsPass v) (fo
         ends = ends_at;
         room = λ k n e. let p = x.lived k n e in found.made.room k p.0 p.1;
       }
-
--- 6. as another view of the pass tells it
-
-pub both_ok : {T E P Q R : Type 0} (r : Result T E) → (P → Q → R) → OnOk r P → OnOk r Q → OnOk r R
-both_ok (Ok x) f p q = f p q
-both_ok (Err e) f p q = tt
-
-some_kin : (o : Option (Node Kept)) (x : Kin) → option_map (λ (n : Node Kept). kin_of n) o ≡ Some x → IsSome o
-some_kin None x e = absurd (none-some x e)
-some_kin (Some n) x e = refl
-
--- the level became the last one
-pub record ComesToEnd (v v' : PassView) (t : ℕ) : Type 0 where
-  pub last : IsLast v' t
-  pub goes : Goes (stage_of v) (stage_of v') t
-  pub rows : (u : ℕ) → u ≤ t → row_of v' u ≡ row_of v u
-
-module _ (w v : PassView) (same : w ≡ v) (h : IsPass w) (t : ℕ) (small : t < 2 ^ 32) (need : (beside : List ℕ) × (readers : List ℕ) × HasFound v t beside readers) where
-  found_by : HasFound w t need.0 need.1
-  found_by = subst (λ z. HasFound z t need.0 need.1) (sym same) need.2
-
-  depth_by : v.next.depth ≡ t → w.next.depth ≡ t
-  depth_by depth = ap (λ (z : PassView). z.next.depth) same ∙ depth
-
-  pub complete : t < length (complete_levels w.forest)
-  complete =
-      are_told w.forest t small
-      (λ u l. found_by.made.spots.new_levels.balanced u (let c = level_count w.next w.limit t (meant_to w.next w.limit t) found_by.made.spots.new_spelled found_by.made.spots.new_is in omega (arith, c, l)))
-
-  -- a node that is gone from the level lives
-  pub gone_live : (gone : List ℕ) → gone ≡ w.front.changes.gone → (k : ℕ) → In k gone → IsLive w.forest k
-  gone_live gone is k i =
-      let on = ((found_by.front.differs.gone k).0 (subst (In k) is i)).0 in
-      let p = level_depth w.forest.root [] (rest_in w) (sound_was w t need.0 need.1 h found_by) t k on in
-      some_kin (now_in w k) (kin_of p.0) (found_by.made.spots.stay k (kin_of p.0) (ap (option_map (λ (n : Node Kept). kin_of n)) p.1))
-
-  pub bare_last : w.system.depth ≤ t → v.next.depth ≡ t → IsLast v t
-  bare_last l depth =
-      subst (λ z. IsLast z t) same
-      (is_last w t need.0 need.1 h found_by w.forest [] w.dropped (ends_bare (repair_of w t) found_by.made.spots (is_behind w t need.0 need.1 h found_by l)) (sym (append-nil w.dropped)) (depth_by depth) small)
-
-  module _ (f : Grove Kept) (ds : List ℕ) (loses : LosesOnly w.forest f) where
-    pub failed_still : v.state ≡ Failed → AreSound f.root (changes_in f) (now_of f) → IsPass (record w { forest = f; dropped = ds })
-    failed_still state sound = still_failed w (record w { forest = f; dropped = ds }) h (record {
-      failed = ap (λ (z : PassView). z.state) same ∙ state;
-      stored = stored_less w.forest f w.store sound loses h.stored;
-      few = let a = h.few in let b = loses.live in omega (arith, a, b);
-      unmarked = h.unmarked;
-      answers = refl;
-      sizes = refl;
-      run = record { system = refl; limit = refl; root = loses.root; was = loses.rest; store = refl; reads = refl; renewed = refl; born = refl; same_seats = λ k. refl };
-      seats = λ k has. has;
-    })
-
-    pub comes_to_end : (gone : List ℕ) (levels : ℕ) → gone ≡ w.front.changes.gone → levels ≡ w.system.depth - t → v.next.depth ≡ t → AreEnded (now_in w) (now_of f) (row_of w t)
-        → ds ≡ w.dropped ++ dropped_at_end (now_in w) (now_of f) (row_of w t) gone levels → ComesToEnd v (record w { forest = f; dropped = ds }) t
-    comes_to_end gone levels is behind depth e lists =
-        subst (λ z. ComesToEnd z (record w { forest = f; dropped = ds }) t) same (record {
-          last = is_last w t need.0 need.1 h found_by f more ds x more_are (depth_by depth) small;
-          goes = goes w t need.0 need.1 h found_by f more ds x more_are;
-          rows = rows_stay w t need.0 need.1 h found_by f more ds x more_are;
-        })
-      where
-        l : IsLastLevel (repair_of w t) w.front.changes
-        l = is_last_level w t need.0 need.1 h found_by
-
-        more : List ℕ
-        more = dropped_at_end (now_in w) (now_of f) (row_of w t) gone levels
-
-        x : EndsBy (repair_of w t) f more
-        x =
-            subst (EndsBy (repair_of w t) f)
-            (sym (ap (λ (ks : List ℕ). dropped_at_end (now_in w) (now_of f) (row_of w t) ks levels) is ∙ dropped_are (repair_of w t) w.front.changes f l e levels behind)) (ends_by (repair_of w t) w.front.changes f l e loses.root loses.rest)
-
-        more_are : ds ≡ w.dropped ++ more
-        more_are = lists

@@ -12,7 +12,7 @@ use Rattle.lsys_pass.specs.Stages.{IsAtLevel}
 use Rattle.lsys_pass.specs.Passes.{PassView, stage_of, IsPass}
 use Rattle.lsys_pass.specs.Moves.{SameRun}
 use Rattle.lsys_pass.specs.Fresh.{WasAsked, WasJustMade}
-use Rattle.lsys_pass.specs.Refusals.{RefusesNext, RefusesBehind, IsFaultOn, IsLimitRefusal}
+use Rattle.lsys_pass.specs.Refusals.{RefusesBehind, IsFaultOn, IsLimitRefusal}
 use Rattle.lsys_pass.proofs.Asking.{at}
 use Rattle.lsys_pass.proofs.Limits.{there_asked}
 use Rattle.lsys_pass.proofs.Telling.{TellsNext, next_exact, tells_fault, tells_limit, fault_why, limit_why}

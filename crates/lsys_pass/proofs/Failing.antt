@@ -14,11 +14,11 @@ use Rattle.lsys_pass.specs.Sizes.{HaveSizes, SizesAt}
 use Rattle.lsys_pass.specs.Stages.{IsStored}
 use Rattle.lsys_pass.specs.Advances.{KeepsRest}
 use Rattle.lsys_pass.specs.Passes.{PassView, stage_of, now_in, rest_in, HoldsAt, FrontAt, IsPass}
-use Rattle.lsys_pass.proofs.Backing.{rests_at}
 use Rattle.lsys_pass.proofs.Finishing.{rest_made}
 
 -- what is kept of it, whatever becomes of the nodes
 pub record KeepsFailed (v v' : PassView) : Type 0 where
+  pub was_failed : v.state ≡ Failed
   pub failed : v'.state ≡ Failed
   pub stored : IsStored (now_in v') (changes_in v'.forest) v'.forest.root v'.store
   pub few : live_nodes v'.forest < 2 ^ 32
@@ -40,7 +40,7 @@ still_failed v v' h k = record {
       subst (HaveSizes (rest_in v') v'.forest.root) (sym k.sizes)
       (subst (λ r. HaveSizes (rest_in v') r v.sizes) (sym k.run.root) (subst (λ (m : Nodes Kept). HaveSizes m v.forest.root v.sizes) (sym k.run.was) h.sized));
   made_sized = subst (SizesAt (now_in v') v'.forest.root v'.next.depth v'.made) (sym k.failed) tt;
-  holds = subst (HoldsAt (stage_of v')) (sym k.failed) (rest_made (stage_of v) (stage_of v') k.run (rests_at (stage_of v) v.state h.holds));
+  holds = subst (HoldsAt (stage_of v')) (sym k.failed) (rest_made (stage_of v) (stage_of v') k.run (subst (HoldsAt (stage_of v)) k.was_failed h.holds));
   front = subst (FrontAt v') (sym k.failed) tt;
   room = λ j n e. k.seats j (h.room j n (ap (λ (m : Nodes Kept). m j) (sym k.run.was) ∙ e));
 }

@@ -1,5 +1,5 @@
 -- From one level to the next.
-use Rattle.std.proofs.Common.{◌≡◌, ◌⊎◌, ◌↔◌, ◌<◌, ◌≤◌, ℕ, suc, true, false, List, [], ◌∷◌, map, Option, Some, None, refl, sym, ap, ◌∙◌, subst, inl, inr, arith, slice_get}
+use Rattle.std.proofs.Common.{◌≡◌, ◌⊎◌, ◌↔◌, ◌<◌, ◌≤◌, ℕ, suc, Bool, true, false, List, [], ◌∷◌, map, Option, Some, None, refl, sym, ap, ◌∙◌, subst, inl, inr, arith, slice_get}
 use Rattle.std.specs.Prelude.{count_by, is_none, option_map}
 use Rattle.std.proofs.lemmas.Bool.{cases_lt}
 use Rattle.std.proofs.lemmas.Option.{none-some, same_Some}
@@ -12,9 +12,8 @@ use Rattle.lsys_level.specs.Spots.{Spotted, with_lineage, named, level_by}
 use Rattle.lsys_laws.proofs.KeptLineages.{stays}
 use Rattle.lsys_walks.specs.Stores.{Store}
 use Rattle.lsys_match.specs.Kept.{Kept}
-use Rattle.lsys_reads.specs.Relations.{Relations, is_pending, pairs_have}
+use Rattle.lsys_reads.specs.Relations.{Relations, is_pending}
 use Rattle.lsys_forest.specs.Nodes.{Node, Nodes}
-use Rattle.lsys_forest.specs.Changes.{Change, undone}
 use Rattle.lsys_forest.specs.Groves.{IsRooted, Reached}
 use Rattle.lsys_forest.specs.Rows.{level_nodes, level_spots, spot_in}
 use Rattle.lsys_forest.proofs.RowLemmas.{level_depth}
@@ -25,9 +24,8 @@ use Rattle.lsys_reads.specs.Lineages.{kin_of, kins, names}
 use Rattle.lsys_reads.specs.Levels.{AnsweredAt, AnsweredIn, level_of, answer_at, HasRead}
 use Rattle.lsys_reads.specs.Meant.{level_to, IsNeeded}
 use Rattle.lsys_pass.specs.Rests.{IsResting}
-use Rattle.lsys_pass.specs.Stages.{Stage, was, Rests, fault_in, AreNoted, HasFault, OutcomeBy, IsNeededAt, HasSeats, IsAtLevel, IsDone}
-use Rattle.lsys_pass.specs.Advances.{IsAskedTo, KeepsRest, Makes, BeginsAnew, Advances, HasLastLevel}
-use Rattle.lsys_pass.specs.Passes.{IsStill}
+use Rattle.lsys_pass.specs.Stages.{Stage, was, Rests, fault_in, AreNoted, HasFault, OutcomeBy, IsNeededAt, HaveNewRead, HasSeats, IsAtLevel, IsDone}
+use Rattle.lsys_pass.specs.Advances.{IsAskedTo, KeepsRest, Makes, Advances, HasLastLevel}
 use Rattle.lsys_pass.proofs.Stepping.{some_in}
 
 -- 1. a level that was asked
@@ -36,10 +34,10 @@ no_outcome : (o : Option FaultKind) (A : Type 0) (F : FaultKind → Type 0) → 
 no_outcome None A F e h = h
 no_outcome (Some k) A F e h = absurd (none-some k (sym e))
 
-none_noted : (fs : List Faulted) (ks : List ℕ) (y : List L.LevelSymbol) → fs ≡ [] → AreNoted fs ks y
+pub none_noted : (fs : List Faulted) (ks : List ℕ) (y : List L.LevelSymbol) → fs ≡ [] → AreNoted fs ks y
 none_noted fs ks y e i f h = absurd (none-some f (ap (λ (l : List Faulted). slice_get l i) (sym e) ∙ h))
 
-no_fault : (s : Stage) (k : ℕ) → s.faults ≡ [] → fault_in k s.faults ≡ None
+pub no_fault : (s : Stage) (k : ℕ) → s.faults ≡ [] → fault_in k s.faults ≡ None
 no_fault s k e = ap (fault_in k) e
 
 none_pending : (s : Stage) (k : ℕ) → s.pending ≡ [] → In k s.pending → ⊥
@@ -72,7 +70,7 @@ module _ (s : Stage) (t : ℕ) (h : IsAskedTo s t) where
 
 -- 2. the next level is made
 
-rest_seats : (s : System) (limit : ℕ) (m : Nodes Kept) (root : ℕ) (store : Store) (reads : Relations) (seats seats' : List Seat) → SameSeats seats seats' → IsResting s limit m root store reads seats → IsResting s limit m root store reads seats'
+pub rest_seats : {listed : Bool} (s : System) (limit : ℕ) (m : Nodes Kept) (root : ℕ) (store : Store) (reads : Relations) (seats seats' : List Seat) → SameSeats seats seats' → IsResting listed s limit m root store reads seats → IsResting listed s limit m root store reads seats'
 rest_seats s limit m root store reads seats seats' same h = record {
   spelled = h.spelled;
   is = h.is;
@@ -90,12 +88,12 @@ rest_seats s limit m root store reads seats seats' same h = record {
 
 pub rest_made : (s s' : Stage) → KeepsRest s s' → Rests s → Rests s'
 rest_made s s' run h =
-    subst (λ r. IsResting s'.system s'.limit (was s') s'.root s'.store r s'.seats) (sym run.reads)
-    (subst (λ st. IsResting s'.system s'.limit (was s') s'.root st s.reads s'.seats) (sym run.store)
-    (subst (λ r. IsResting s'.system s'.limit (was s') r s.store s.reads s'.seats) (sym run.root)
-    (subst (λ (m : Nodes Kept). IsResting s'.system s'.limit m s.root s.store s.reads s'.seats) (sym run.was)
-    (subst (λ n. IsResting s'.system n (was s) s.root s.store s.reads s'.seats) (sym run.limit)
-    (subst (λ (y : System). IsResting y s.limit (was s) s.root s.store s.reads s'.seats) (sym run.system)
+    subst (λ r. IsResting true s'.system s'.limit (was s') s'.root s'.store r s'.seats) (sym run.reads)
+    (subst (λ st. IsResting true s'.system s'.limit (was s') s'.root st s.reads s'.seats) (sym run.store)
+    (subst (λ r. IsResting true s'.system s'.limit (was s') r s.store s.reads s'.seats) (sym run.root)
+    (subst (λ (m : Nodes Kept). IsResting true s'.system s'.limit m s.root s.store s.reads s'.seats) (sym run.was)
+    (subst (λ n. IsResting true s'.system n (was s) s.root s.store s.reads s'.seats) (sym run.limit)
+    (subst (λ (y : System). IsResting true y s.limit (was s) s.root s.store s.reads s'.seats) (sym run.system)
     (rest_seats s.system s.limit (was s) s.root s.store s.reads s.seats s'.seats run.same_seats h))))))
 
 tag_is : (k : ℕ) (o : Option (Node Kept)) → (spot_in k o).tag ≡ k
@@ -172,17 +170,20 @@ module _ (s s' : Stage) (t : ℕ) (h : IsAskedTo s t) (sound : IsRooted s.root s
   same_answer : (k : ℕ) → In k s'.renewed → answer_at s'.now k ≡ answer_at s.now k
   same_answer k i = let w = renewed_level k i in x.above.kept w.0 k (within w.0 w.1) w.2
 
-  read : (reader seen : ℕ) → (is_pending s'.reads reader seen ≡ true) ↔ (In reader s'.renewed × HasRead s'.now s'.store reader seen)
-  read reader seen = (
+  read : s'.listed ≡ true → HaveNewRead s'
+  read known reader seen = (
     λ e.
-        let r = (h.at.lists.read reader seen).0 (ap (λ (z : Relations). is_pending z reader seen) (sym x.run.reads) ∙ e) in
+        let r = (h.at.lists.read (sym x.run.listed ∙ known) reader seen).0 (ap (λ (z : Relations). is_pending z reader seen) (sym x.run.reads) ∙ e) in
         let i = subst (In reader) (sym x.run.renewed) r.0 in
         (i, subst (λ st. HasRead s'.now st reader seen) (sym x.run.store) (record { answer = r.1.answer; kept = same_answer reader i ∙ r.1.kept; among = r.1.among })),
     λ q.
         let w = subst (λ st. HasRead s'.now st reader seen) x.run.store q.1 in
         ap (λ (z : Relations). is_pending z reader seen) x.run.reads
-        ∙ (h.at.lists.read reader seen).1 (is_renewed reader q.0, record { answer = w.answer; kept = sym (same_answer reader q.0) ∙ w.kept; among = w.among }),
+        ∙ (h.at.lists.read (sym x.run.listed ∙ known) reader seen).1 (is_renewed reader q.0, record { answer = w.answer; kept = sym (same_answer reader q.0) ∙ w.kept; among = w.among }),
   )
+
+  unread : s'.listed ≡ false → s'.reads.pending ≡ []
+  unread not = ap (λ (r : Relations). r.pending) x.run.reads ∙ h.at.lists.unread (sym x.run.listed ∙ not)
 
   was_answer : (k : ℕ) → answer_at (was s') k ≡ answer_at (was s) k
   was_answer k = ap (λ (m : Nodes Kept). answer_at m k) x.run.was
@@ -241,6 +242,7 @@ module _ (s s' : Stage) (t : ℕ) (h : IsAskedTo s t) (sound : IsRooted s.root s
     };
     lists = record {
       read = read;
+      unread = unread;
       renewed_are = λ k i. let w = renewed_level k i in (w.0, (let l = w.1 in omega (arith, l)), on_new w.0 k w.1 w.2);
       renewed_done = λ k i j. not_renewed k i (some_in s'.pending (level_nodes s'.now s'.root (suc t)) a.ask.in_order k j);
       dropped_are = λ k u i l j. x.drops.none k u i l j;
@@ -281,6 +283,7 @@ module _ (s s' : Stage) (t : ℕ) (h : IsAskedTo s t) (sound : IsRooted s.root s
     answered = λ u p k l e. answered u p k (let f = d.depth in omega (arith, l, f)) e;
     last = λ k i. d.last k (subst (λ w. In k (level_nodes s'.now s'.root w)) d.depth i);
     read = read;
+    unread = unread;
     renewed_are = λ k i. let w = renewed_level k i in (w.0, (let l = w.1 in let f = d.depth in omega (arith, l, f)), on_new w.0 k w.1 w.2);
     renewed_apart = subst AreApart (sym x.run.renewed) h.at.news.apart;
     news = λ u p k l e.
@@ -294,116 +297,5 @@ module _ (s s' : Stage) (t : ℕ) (h : IsAskedTo s t) (sound : IsRooted s.root s
     dropped_are = d.dropped_none;
     kept = λ k b e. done_kept d k b (kept_on k b e);
     fresh = λ k b e. elim (h.at.lists.fresh k b (x.above.same k b e)) [ inl i ↦ inl (subst (In k) (sym x.run.renewed) i) | inr f ↦ inr (was_answer k ∙ f) ];
-    seats = subst (HasSeats s') (sym d.depth) x.seats;
-  }
-
--- 3. the first level
-
-module _ (s s' : Stage) (h : IsStill s) (x : BeginsAnew s s') where
-  none_renewed : (k : ℕ) → In k s'.renewed → ⊥
-  none_renewed k i = subst (In k) (x.run.renewed ∙ h.renewed) i
-
-  first_rest : Rests s'
-  first_rest = rest_made s s' x.run h.rest
-
-  -- the nodes of the last rest are those that were there
-  was_now : was s' ≡ s.now
-  was_now = x.run.was ∙ ap (λ (cs : List (Change Kept)). undone cs s.now) h.changes
-
-  first_answer : (k : ℕ) → answer_at (was s') k ≡ answer_at s.now k
-  first_answer k = ap (λ (m : Nodes Kept). answer_at m k) was_now
-
-  first_read : (reader seen : ℕ) → (is_pending s'.reads reader seen ≡ true) ↔ (In reader s'.renewed × HasRead s'.now s'.store reader seen)
-  first_read reader seen = (
-    λ e. absurd (let f : false ≡ true = sym (ap (λ ps. pairs_have ps reader seen) (ap (λ (r : Relations). r.pending) x.run.reads ∙ h.reads)) ∙ e in cc),
-    λ q. absurd (none_renewed reader q.0),
-  )
-
-  first_kept : (k : ℕ) (b : Kept) → answer_at (was s') k ≡ Some b → In k s'.renewed ⊎ In k s'.dropped ⊎ (answer_at s'.now k ≡ Some b)
-  first_kept k b e = inr (x.gone k b (sym (first_answer k) ∙ e))
-
-  first_fresh : (k : ℕ) (b : Kept) → answer_at s'.now k ≡ Some b → In k s'.renewed ⊎ (answer_at (was s') k ≡ Some b)
-  first_fresh k b e = inr (first_answer k ∙ x.same k b e)
-
-  first_lost : (k u : ℕ) (b : Kept) → u ≤ 0 → answer_at (was s') k ≡ Some b → In k (level_nodes (was s') s'.root u) → In k s'.dropped ⊎ In k (level_nodes s'.now s'.root u)
-  first_lost k u b l e i =
-      let same : u ≡ 0 = omega (arith, l) in
-      subst (λ w. In k s'.dropped ⊎ In k (level_nodes s'.now s'.root w)) (sym same) (x.drops.lost k b e (subst (λ w. In k (level_nodes (was s') s'.root w)) same i))
-
-  first_all : Advances s' 0 → (u p k : ℕ) → u ≤ 0 → slice_get (level_nodes s'.now s'.root u) p ≡ Some k → IsNeededAt s' u p → In k s'.renewed ⊎ In k s'.pending ⊎ (fault_in k s'.faults ≡ None → ⊥)
-  first_all a u p k l e n =
-      let same : u ≡ 0 = omega (arith, l) in
-      elim (a.ask.each p k (ap (λ w. slice_get (level_nodes s'.now s'.root w) p) (sym same) ∙ e)) [
-        | inl r ↦ inr (inl r.0)
-        | inr r ↦ absurd (r.2 (subst (λ w. IsNeededAt s' w p) same n))
-      ]
-
-  none_born : s'.born ≡ count_by (λ k. is_none (answer_at (was s') k)) s'.renewed
-  none_born = x.run.born ∙ h.born ∙ ap (count_by (λ k. is_none (answer_at (was s') k))) (sym (x.run.renewed ∙ h.renewed))
-
-  -- the pass is at the first level
-  pub starts_first : Advances s' 0 → IsAtLevel s' 0
-  starts_first a = record {
-    rest = first_rest;
-    tree = a.tree;
-    answers = record {
-      above = λ u p k l e. absurd (omega (arith, l));
-      here = λ p k e. elim (a.ask.each p k e) [
-        | inl r ↦ inl (record { pending = r.0; candidate = r.1; same = r.2; faultless = no_fault s' k a.ask.faults })
-        | inr r ↦ inr (record { done = r.0; outcome = subst (λ o. OutcomeBy o (AnsweredAt s'.next 0 s'.now s'.root s'.store p k) (HasFault s'.next 0 (level_to s'.next s'.limit 0) p)) (sym (no_fault s' k a.ask.faults)) r.1 })
-      ];
-      noted = none_noted s'.faults (level_nodes s'.now s'.root 0) (level_of s'.now s'.root 0) a.ask.faults;
-      in_order = a.ask.in_order;
-      apart = a.ask.apart;
-    };
-    lists = record {
-      read = first_read;
-      renewed_are = λ k i. absurd (none_renewed k i);
-      renewed_done = λ k i j. none_renewed k i;
-      dropped_are = λ k u i l j. x.drops.none k u i l j;
-      dropped_done = a.ask.undropped;
-      kept = first_kept;
-      dropped_apart = x.drops.apart;
-      dropped_at = a.dropped_at;
-      dropped_had = x.drops.had;
-      lost = first_lost;
-      fresh = first_fresh;
-    };
-    news = record {
-      apart = subst AreApart (sym (x.run.renewed ∙ h.renewed)) tt;
-      needed = λ u p k l e i. absurd (none_renewed k i);
-      all = first_all a;
-      born = none_born;
-    };
-    seats = x.seats;
-  }
-
-  -- or it is the only one
-  pub starts_done : HasLastLevel s' 0 → IsDone s'
-  starts_done d = record {
-    rest = first_rest;
-    spelled = d.spelled;
-    is = d.is;
-    levels = d.levels;
-    small = d.small;
-    counts = d.counts;
-    ends = d.none_below;
-    once = d.once;
-    stay = d.stay;
-    answered = λ u p k l e. absurd (let f = d.depth in omega (arith, l, f));
-    last = λ k i. d.last k (subst (λ w. In k (level_nodes s'.now s'.root w)) d.depth i);
-    read = first_read;
-    renewed_are = λ k i. absurd (none_renewed k i);
-    renewed_apart = subst AreApart (sym (x.run.renewed ∙ h.renewed)) tt;
-    news = λ u p k l e. absurd (let f = d.depth in omega (arith, l, f));
-    born = none_born;
-    dropped_apart = x.drops.apart;
-    dropped_had = x.drops.had;
-    dropped_are = d.dropped_none;
-    kept = λ k b e. elim (x.gone k b (sym (first_answer k) ∙ e)) [
-      | inl i ↦ inr (inl i)
-      | inr f ↦ elim (d.reached k b f) [ inl r ↦ inr (inr (r, f)) | inr i ↦ inr (inl i) ]
-    ];
-    fresh = first_fresh;
     seats = subst (HasSeats s') (sym d.depth) x.seats;
   }

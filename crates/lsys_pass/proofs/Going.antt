@@ -16,6 +16,7 @@ module _ (s s' s'' : Stage) (t : ℕ) (a : Goes s s' t) (b : Goes s' s'' t) wher
     was = b.run.was ∙ a.run.was;
     store = b.run.store ∙ a.run.store;
     reads = b.run.reads ∙ a.run.reads;
+    listed = b.run.listed ∙ a.run.listed;
     renewed = b.run.renewed ∙ a.run.renewed;
     born = b.run.born ∙ a.run.born;
     same_seats = λ k. b.run.same_seats k ∙ a.run.same_seats k;
@@ -70,6 +71,7 @@ begins s s' n g l = record {
     was = g.run.was;
     store = g.run.store;
     reads = g.run.reads;
+    listed = g.run.listed;
     renewed = g.run.renewed;
     born = g.run.born;
     same_seats = g.run.same_seats;

@@ -23,6 +23,7 @@ pub mod Closed
 pub mod Numbering
 pub mod Refusing
 pub mod Finishing
+pub mod Starting
 pub mod Limits
 pub mod Telling
 pub mod Exact
@@ -44,6 +45,7 @@ pub mod NextParents
 pub mod Failing
 pub mod Ended
 pub mod Endings
+pub mod EndedLevels
 pub mod Turnings
 pub mod Derived
 pub mod Holding
@@ -52,8 +54,10 @@ pub mod Askings
 pub mod Unanswered
 pub mod Pendings
 pub mod AskedLevels
+pub mod Listed
 pub mod Births
 pub mod Freshness
+pub mod MadeLevels
 pub mod Marked
 pub mod NextCounts
 pub mod Queued

@@ -43,7 +43,7 @@ module _ (v : PassView) (seats : List Seat) (same : SameSeats v.seats seats) (ke
   marked = record v { seats = seats }
 
   run : KeepsRest (stage_of v) (stage_of marked)
-  run = record { system = refl; limit = refl; root = refl; was = refl; store = refl; reads = refl; renewed = refl; born = refl; same_seats = same }
+  run = record { system = refl; limit = refl; root = refl; was = refl; store = refl; reads = refl; listed = refl; renewed = refl; born = refl; same_seats = same }
 
   at_marked : (t : ℕ) → IsAtLevel (stage_of v) t → IsAtLevel (stage_of marked) t
   at_marked t h = record {
@@ -61,6 +61,7 @@ module _ (v : PassView) (seats : List Seat) (same : SameSeats v.seats seats) (ke
     };
     lists = record {
       read = h.lists.read;
+      unread = h.lists.unread;
       renewed_are = h.lists.renewed_are;
       renewed_done = h.lists.renewed_done;
       dropped_are = h.lists.dropped_are;
@@ -104,6 +105,7 @@ module _ (v : PassView) (seats : List Seat) (same : SameSeats v.seats seats) (ke
 
   pub failed_marked : v.state ≡ Failed → IsPass v → ((k : ℕ) → is_marked seats k ≡ false) → IsPass marked
   failed_marked state h clear = still_failed v marked h (record {
+    was_failed = state;
     failed = state;
     stored = h.stored;
     few = h.few;

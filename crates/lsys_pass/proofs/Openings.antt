@@ -1,5 +1,5 @@
 -- A pass at rest: the opening system, and the last rest.
-use Rattle.std.proofs.Common.{◌≡◌, ◌≢◌, ℕ, zero, suc, ◌<◌, true, false, List, [], ◌∷◌, map, length, Option, Some, None, refl, sym, ap, ◌∙◌, subst, inl, inr, arith}
+use Rattle.std.proofs.Common.{◌≡◌, ◌≢◌, ℕ, zero, suc, ◌<◌, Bool, true, false, List, [], ◌∷◌, map, length, Option, Some, None, refl, sym, ap, ◌∙◌, subst, inl, inr, arith}
 use Rattle.std.specs.Prelude.{ℤ, Ok, nat_lt, slice_get, get_or, option_map}
 use Rattle.std.specs.Option.{option_and_then}
 use Rattle.std.proofs.lemmas.Bool.{cases_eq}
@@ -68,7 +68,7 @@ no_levels m root (suc t) h = ap (kids_below m) (no_levels m root t h)
 nothing : {A : Type 0} (p : ℕ) (xs : List A) (k : A) → xs ≡ [] → slice_get xs p ≡ Some k → ⊥
 nothing p xs k e f = let n : None ≡ Some k = ap (λ ys. slice_get ys p) (sym e) ∙ f in none-some k n
 
-pub alone_rests : (m : Nodes Kept) (root limit : ℕ) (store : Store) (reads : Relations) (seats : List Seat) → IsAlone m root → reads.settled ≡ [] → IsResting opening limit m root store reads seats
+pub alone_rests : {listed : Bool} (m : Nodes Kept) (root limit : ℕ) (store : Store) (reads : Relations) (seats : List Seat) → IsAlone m root → reads.settled ≡ [] → IsResting listed opening limit m root store reads seats
 alone_rests m root limit store reads seats h none = record {
   spelled = opening_well.1;
   is = is;
@@ -88,7 +88,7 @@ alone_rests m root limit store reads seats h none = record {
   answered = λ t p k l e. absurd (nothing p (level_nodes m root t) k (no_levels m root t h) e);
   others = λ k i. no_answer m root k h;
   made = λ k a e. absurd (none-some a (sym (no_answer m root k h) ∙ e));
-  read = λ reader seen. (
+  read = λ known reader seen. (
     λ e. absurd (let f : false ≡ true = sym (unsettled reader seen) ∙ e in cc),
     λ r. absurd (none-some r.answer (sym (no_answer m root reader h) ∙ r.kept)),
   );

@@ -38,7 +38,7 @@ use Rattle.lsys_reads.specs.Levels as kept
 use Rattle.lsys_reads.specs.Levels.{IsRight, IsKeptFor, AnsweredIn, level_of, answer_at, tags_read, HasRead}
 use Rattle.lsys_reads.specs.Meant.{levels_meant, level_to}
 use Rattle.lsys_pass.specs.declared.fault.Faulted.{Faulted}
-use Rattle.lsys_pass.specs.Read.{pairs_of}
+use Rattle.lsys_pass.specs.Read.{pairs_of, NotesPairs}
 use Rattle.lsys_pass.specs.Stages.{Stage, was, fault_in, IsNoted, AreNoted, HasFault, OutcomeBy, IsNeededAt, IsAtLevel}
 use Rattle.lsys_pass.proofs.Stores.{AllMade, AllStay, read_on, read_back}
 use Rattle.lsys_pass.proofs.Alike.{answer_put, answer_other, put_again}
@@ -170,14 +170,15 @@ module _ (s : Stage) (t node : ℕ) (n : Node Kept) (front back : List ℕ) (x :
     old_in = λ k i. i;
     new_in = λ k i. inl i;
     kept = inl e;
-    read = λ reader seen. (
+    read = λ known reader seen. (
       λ q.
-          let r = (x.at.lists.read reader seen).0 (ap (λ (z : Relations). is_pending z reader seen) (sym same) ∙ q) in
+          let r = (x.at.lists.read known reader seen).0 (ap (λ (z : Relations). is_pending z reader seen) (sym same) ∙ q) in
           (r.0, subst (λ (m : Nodes Kept). HasRead m st reader seen) (sym again) (read_on s.store st s.now stays reader seen r.1)),
       λ q.
           ap (λ (z : Relations). is_pending z reader seen) same
-          ∙ (x.at.lists.read reader seen).1 (q.0, read_back s.store st s.now stays reader seen (subst (λ (m : Nodes Kept). HasRead m st reader seen) again q.1)),
+          ∙ (x.at.lists.read known reader seen).1 (q.0, read_back s.store st s.now stays reader seen (subst (λ (m : Nodes Kept). HasRead m st reader seen) again q.1)),
     );
+    unread = λ not. ap (λ (z : Relations). z.pending) same ∙ x.at.lists.unread not;
     apart = x.at.news.apart;
     needed = λ i q h. absurd (unrenewed s t node n front back x i);
     all = λ q h i. inr (all q h i);
@@ -288,13 +289,13 @@ module _ (s : Stage) (t node : ℕ) (n : Node Kept) (front back : List ℕ) (x :
     pub successor_new : (by_definition s.next t (level_of s.now s.root t) p (names s.now node) r.here.own).successor ≡ Ok (answer_in st a).successor
     successor_new = sym (r.answered (names s.now) (named_here r.here)).successor
 
-    read_new : (rd : Relations) → rd.pending ≡ s.reads.pending ++ pairs_of node (tags_read st a) → (reader seen : ℕ) → (is_pending rd reader seen ≡ true) ↔ (In reader (s.renewed ++ node ∷ []) × HasRead (with_node s.now node (Some (with_answer (Some a) n))) st reader seen)
-    read_new rd e reader seen = (to, from)
+    read_new : s.listed ≡ true → (rd : Relations) → rd.pending ≡ s.reads.pending ++ pairs_of node (tags_read st a) → (reader seen : ℕ) → (is_pending rd reader seen ≡ true) ↔ (In reader (s.renewed ++ node ∷ []) × HasRead (with_node s.now node (Some (with_answer (Some a) n))) st reader seen)
+    read_new known rd e reader seen = (to, from)
       where
         to : is_pending rd reader seen ≡ true → In reader (s.renewed ++ node ∷ []) × HasRead (with_node s.now node (Some (with_answer (Some a) n))) st reader seen
         to h = elim (have_cases s.reads.pending (pairs_of node (tags_read st a)) reader seen (ap (λ ps. pairs_have ps reader seen) (sym e) ∙ h)) [
           | inl old ↦
-              let w = (x.at.lists.read reader seen).0 old in
+              let w = (x.at.lists.read known reader seen).0 old in
               let ne : reader ≢ node = λ q. unrenewed s t node n front back x (subst (λ k. In k s.renewed) q w.0) in
               let b = read_on s.store st s.now (λ k c f. stay_new c (made k c f)) reader seen w.1 in
               (In_left reader s.renewed (node ∷ []) w.0, record { answer = b.answer; kept = answer_other s.now node reader n (Some a) ne ∙ b.kept; among = b.among })
@@ -308,7 +309,7 @@ module _ (s : Stage) (t node : ℕ) (n : Node Kept) (front back : List ℕ) (x :
           | inl i ↦
               let ne : reader ≢ node = λ f. unrenewed s t node n front back x (subst (λ k. In k s.renewed) f i) in
               let b : HasRead s.now st reader seen = record { answer = q.1.answer; kept = sym (answer_other s.now node reader n (Some a) ne) ∙ q.1.kept; among = q.1.among } in
-              have_left s.reads.pending (pairs_of node (tags_read st a)) reader seen ((x.at.lists.read reader seen).1 (i, read_back s.store st s.now (λ k c f. stay_new c (made k c f)) reader seen b))
+              have_left s.reads.pending (pairs_of node (tags_read st a)) reader seen ((x.at.lists.read known reader seen).1 (i, read_back s.store st s.now (λ k c f. stay_new c (made k c f)) reader seen b))
           | inr i ↦ elim i [
             | inl f ↦
                 let same : a ≡ q.1.answer = same_Some a q.1.answer (sym (answer_put s.now node reader n (Some a) f) ∙ q.1.kept) in
@@ -320,7 +321,7 @@ module _ (s : Stage) (t node : ℕ) (n : Node Kept) (front back : List ℕ) (x :
         ]
 
     pub level_new : (cs : List (Change Kept)) (rd : Relations) (b : ℕ) (is_born : Bool) → undone cs (with_node s.now node (Some (with_answer (Some a) n))) ≡ was s
-        → rd.pending ≡ s.reads.pending ++ pairs_of node (tags_read st a) → SettledStay s.reads rd → is_born ≡ is_none (answer_at s.now node) → b ≡ s.born + cond is_born 1 0
+        → NotesPairs s.listed s.reads rd node (tags_read st a) → SettledStay s.reads rd → is_born ≡ is_none (answer_at s.now node) → b ≡ s.born + cond is_born 1 0
         → IsAtLevel (stepped s (with_node s.now node (Some (with_answer (Some a) n))) cs st rd (front ++ back) s.faults (s.renewed ++ node ∷ []) b) t
     level_new cs rd b is_born undo read settled born count =
         at_level s t node n front back x (Some a) cs st rd s.faults (s.renewed ++ node ∷ []) b undo
@@ -336,7 +337,8 @@ module _ (s : Stage) (t node : ℕ) (n : Node Kept) (front back : List ℕ) (x :
           old_in = λ k i. In_left k s.renewed (node ∷ []) i;
           new_in = λ k i. elim (In_append s.renewed (node ∷ []) k i) [ inl j ↦ inl j | inr j ↦ elim j [ inl e ↦ inr e | inr none ↦ absurd none ] ];
           kept = inr (In_right node s.renewed (node ∷ []) (inl refl));
-          read = read_new rd read;
+          read = λ known. read_new known rd (read.adds known);
+          unread = λ not. read.stays not ∙ x.at.lists.unread not;
           apart = apart_append s.renewed (node ∷ []) x.at.news.apart (λ none. none, tt) (λ k i j. elim j [ inl e ↦ unrenewed s t node n front back x (subst (λ y. In y s.renewed) e i) | inr none ↦ none ]);
           needed = λ i q h. subst (λ j. IsNeededAt s t j) (sym (same_place q r.there h)) (record { line = names s.now node; own = r.here.own; stands = r.here.stands; rules = r.here.rules; is = needed });
           all = λ q h i. inl (In_right node s.renewed (node ∷ []) (inl refl));

@@ -1,11 +1,11 @@
 -- The pairs of a reader and what it saw.
-use Rattle.std.proofs.Common.{◌≡◌, ◌⊎◌, ◌+◌, ℕ, Bool, true, false, ◌&&◌, ◌||◌, ◌==◌, List, [], ◌∷◌, ◌++◌, take, drop, Option, Some, refl, sym, ap, ◌∙◌, inl, inr, arith}
-use Rattle.std.specs.Prelude.{flat_map, ℤ}
+use Rattle.std.proofs.Common.{◌≡◌, ◌⊎◌, ℕ, Bool, true, false, ◌&&◌, ◌||◌, ◌==◌, List, [], ◌∷◌, ◌++◌, take, drop, Option, Some, refl, sym, ap, ◌∙◌, inl, inr, arith}
+use Rattle.std.specs.Prelude.{flat_map, ℤ, Result, Ok, Err, OnOk}
 use Rattle.std.proofs.lemmas.Bool.{eqb-true}
 use Rattle.std.proofs.lemmas.List.{append_assoc}
 use Rattle.lsys_spec.specs.Rows.{In}
 use Rattle.lsys_reads.specs.declared.Pair.{Pair}
-use Rattle.lsys_reads.specs.Relations.{pairs_have}
+use Rattle.lsys_reads.specs.Relations.{Relations, pairs_have}
 use Rattle.lsys_walks.specs.declared.entry.Entry.{Entry}
 use Rattle.lsys_walks.specs.declared.entry.Entry.TheVariants.{Compared, Ignored, Out, Branch}
 use Rattle.lsys_walks.specs.Parts.{arity_of}
@@ -15,7 +15,7 @@ use Rattle.lsys_walks.specs.Stores.{Store}
 use Rattle.lsys_match.specs.Kept.{Kept}
 use Rattle.lsys_match.specs.Stored.{listed, entries_in, values_in}
 use Rattle.lsys_reads.specs.Levels.{tags_named, tags_read}
-use Rattle.lsys_pass.specs.Read.{entry_tags, entries_tags, pairs_of, ComesBehind}
+use Rattle.lsys_pass.specs.Read.{entry_tags, entries_tags, pairs_of, ComesBehind, AddsPairs, NotesPairs}
 
 -- 1. entries, one by one
 
@@ -87,5 +87,18 @@ has_reader node (k ∷ tags) seen (inr h) = ap (λ b. ((node == node) && (k == s
 pub trace_tags : (store : Store) (a : Kept) (es : List Entry) → list_of store.traces a.entries ≡ Some es → tags_read store a ≡ entries_tags es
 trace_tags store a es e = entries_same (entries_in store a) (drop a.arity (values_in store a)) ∙ ap (λ (o : Option (List Entry)). entries_tags (listed o)) e
 
-pub with_tags : (new old : List Pair) (k node : ℕ) (tags read : List ℕ) → k ≡ node → new ≡ old ++ pairs_of k tags → read ≡ tags → new ≡ old ++ pairs_of node read
+with_tags : (new old : List Pair) (k node : ℕ) (tags read : List ℕ) → k ≡ node → new ≡ old ++ pairs_of k tags → read ≡ tags → new ≡ old ++ pairs_of node read
 with_tags new old k node tags read e is same = is ∙ ap (λ j. old ++ pairs_of j tags) e ∙ ap (λ (ts : List ℕ). old ++ pairs_of node ts) (sym same)
+
+-- so it is noted of a node what its answer read
+pub notes_tags : (listed : Bool) (old new : Relations) (k node : ℕ) (tags read : List ℕ) → k ≡ node → NotesPairs listed old new k tags → read ≡ tags → NotesPairs listed old new node read
+notes_tags listed old new k node tags read e n same = record {
+  adds = λ is. with_tags new.pending old.pending k node tags read e (n.adds is) same;
+  stays = n.stays;
+}
+
+-- and where it was added in any case
+pub adds_tags : {X E : Type 0} (r : Result X E) (old new : Relations) (k node : ℕ) (tags read : List ℕ) → k ≡ node
+    → OnOk r (AddsPairs old new k tags) → read ≡ tags → OnOk r (AddsPairs old new node read)
+adds_tags (Ok x) old new k node tags read e adds same = with_tags new.pending old.pending k node tags read e adds same
+adds_tags (Err f) old new k node tags read e adds same = adds

@@ -5,7 +5,7 @@ use Rattle.std.proofs.lemmas.Bool.Decides.{nat_tests}
 use Rattle.std.proofs.lemmas.Option.{none-some, same_Some, slice_get-map, slice_get_within}
 use Rattle.lsys_spec.specs.Rows.{In}
 use Rattle.lsys_spec.specs.Levels.{LevelSymbol, Module}
-use Rattle.lsys_spec.specs.Meaning.{FaultAt, next_level, last_level, successor, replacement}
+use Rattle.lsys_spec.specs.Meaning.{FaultAt, next_level, successor, replacement}
 use Rattle.lsys_rewrite.specs.Faults.{fault_of}
 use Rattle.lsys_rewrite.specs.declared.refusal.FaultKind.{FaultKind}
 use Rattle.lsys_rewrite.specs.declared.refusal.DeriveRefusal.{DeriveRefusal}

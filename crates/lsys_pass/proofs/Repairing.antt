@@ -1,5 +1,5 @@
 -- A level of a pass as one that is being repaired.
-use Rattle.std.proofs.Common.{◌≡◌, ◌⊎◌, ◌+◌, ◌<◌, ◌≤◌, ℕ, List, [], Option, Some, None, refl, sym, ◌∙◌, subst, inl, inr, arith}
+use Rattle.std.proofs.Common.{◌≡◌, ◌⊎◌, ◌+◌, ◌<◌, ◌≤◌, ℕ, Bool, List, [], Option, Some, None, refl, sym, ◌∙◌, subst, inl, inr, arith}
 use Rattle.std.proofs.lemmas.Option.{none-some}
 use Rattle.lsys_spec.specs.Rows.{In}
 use Rattle.lsys_spec.specs.Systems.{System}
@@ -21,7 +21,7 @@ use Rattle.lsys_pass.specs.Passes.{PassView, stage_of, HoldsAt, repair_of, HasFr
 -- 1. what is known of the level before its nodes are found
 
 -- by the parts of a stage
-pub stepping_sound : (r : Repair) (reads : Relations) (seats : List Seat) → AreSound (root r) (changes_in r.forest) (R.now r) → IsResting r.old r.limit (rest r) (root r) r.store reads seats
+pub stepping_sound : {listed : Bool} (r : Repair) (reads : Relations) (seats : List Seat) → AreSound (root r) (changes_in r.forest) (R.now r) → IsResting listed r.old r.limit (rest r) (root r) r.store reads seats
     → HasTree (R.now r) (rest r) (root r) r.new r.limit r.level → SteppingSpots r
 stepping_sound r reads seats sound rests tree = record {
   sound = sound;
@@ -37,7 +37,7 @@ stepping_sound r reads seats sound rests tree = record {
   answered = λ p k less e. rests.answered r.level p k less e;
 }
 
-pub stepping_stored : (r : Repair) (reads : Relations) (seats : List Seat) → IsStored (R.now r) (changes_in r.forest) (root r) r.store → IsResting r.old r.limit (rest r) (root r) r.store reads seats
+pub stepping_stored : {listed : Bool} (r : Repair) (reads : Relations) (seats : List Seat) → IsStored (R.now r) (changes_in r.forest) (root r) r.store → IsResting listed r.old r.limit (rest r) (root r) r.store reads seats
     → HasTree (R.now r) (rest r) (root r) r.new r.limit r.level → SteppingSpots r
 stepping_stored r reads seats stored = stepping_sound r reads seats stored.sound
 

@@ -45,15 +45,15 @@ use Rattle.lsys_pass.proofs.Outcomes.{IsReplied, fault_behind, level_same, level
 
 -- 1. the parts of a stage, one by one
 
-abbrev stage_with : Stage → Nodes Kept → List (Change Kept) → ℕ → Store → Relations → List ℕ → List Faulted → List ℕ → ℕ → List ℕ → List ℕ → Stage
-stage_with s m cs r st rd ps fs rn b ds mv =
-    record s { now = m; changes = cs; root = r; store = st; reads = rd; pending = ps; faults = fs; renewed = rn; born = b; dropped = ds; moved = mv }
+abbrev stage_with : Stage → Nodes Kept → List (Change Kept) → ℕ → Store → Relations → Bool → List ℕ → List Faulted → List ℕ → ℕ → List ℕ → List ℕ → Stage
+stage_with s m cs r st rd ls ps fs rn b ds mv =
+    record s { now = m; changes = cs; root = r; store = st; reads = rd; listed = ls; pending = ps; faults = fs; renewed = rn; born = b; dropped = ds; moved = mv }
 
-same_stage : (s : Stage) (m m' : Nodes Kept) (cs : List (Change Kept)) (r : ℕ) (st st' : Store) (rd rd' : Relations) (ps ps' : List ℕ) (fs fs' : List Faulted) (rn rn' : List ℕ) (b b' : ℕ) (ds mv : List ℕ)
-    → m' ≡ m → r ≡ s.root → st' ≡ st → rd' ≡ rd → ps' ≡ ps → fs' ≡ fs → rn' ≡ rn → b' ≡ b → ds ≡ s.dropped → mv ≡ s.moved
-    → ◌≡◌ {A = Stage} (stage_with s m' cs r st' rd' ps' fs' rn' b' ds mv) (stepped s m cs st rd ps fs rn b)
-same_stage s m m' cs r st st' rd rd' ps ps' fs fs' rn rn' b b' ds mv e1 e2 e3 e4 e5 e6 e7 e8 e9 e10 =
-    λ i. stage_with s (e1 i) cs (e2 i) (e3 i) (e4 i) (e5 i) (e6 i) (e7 i) (e8 i) (e9 i) (e10 i)
+same_stage : (s : Stage) (m m' : Nodes Kept) (cs : List (Change Kept)) (r : ℕ) (st st' : Store) (rd rd' : Relations) (ls : Bool) (ps ps' : List ℕ) (fs fs' : List Faulted) (rn rn' : List ℕ) (b b' : ℕ) (ds mv : List ℕ)
+    → m' ≡ m → r ≡ s.root → st' ≡ st → rd' ≡ rd → ls ≡ s.listed → ps' ≡ ps → fs' ≡ fs → rn' ≡ rn → b' ≡ b → ds ≡ s.dropped → mv ≡ s.moved
+    → ◌≡◌ {A = Stage} (stage_with s m' cs r st' rd' ls ps' fs' rn' b' ds mv) (stepped s m cs st rd ps fs rn b)
+same_stage s m m' cs r st st' rd rd' ls ps ps' fs fs' rn rn' b b' ds mv e1 e2 e3 e4 el e5 e6 e7 e8 e9 e10 =
+    λ i. stage_with s (e1 i) cs (e2 i) (e3 i) (e4 i) (el i) (e5 i) (e6 i) (e7 i) (e8 i) (e9 i) (e10 i)
 
 stored_same : (m m' : Nodes Kept) (cs cs' : List (Change Kept)) (r r' : ℕ) (st st' : Store) → m' ≡ m → cs' ≡ cs → r' ≡ r → st' ≡ st → IsStored m cs r st → IsStored m' cs' r' st'
 stored_same m m' cs cs' r r' st st' e1 e2 e3 e4 h =
@@ -62,11 +62,12 @@ stored_same m m' cs cs' r r' st st' e1 e2 e3 e4 h =
 -- 2. the pass
 
 -- with these nodes pending, and the other lists as they are here
-abbrev pub after : PassView → Grove Kept → Store → Relations → List ℕ → Work → PassView
-after v f st rd ps w = record v {
+abbrev pub after : PassView → Grove Kept → Store → Relations → Bool → List ℕ → Work → PassView
+after v f st rd ls ps w = record v {
   forest = f;
   store = st;
   reads = rd;
+  listed = ls;
   pending = ps;
   faults = w.faults.items;
   renewed = w.renewed.items;
@@ -92,7 +93,7 @@ pub record IsStepped (v v' : PassView) (node : ℕ) : Type 0 where
   pub steps : StepsOver v v' node
 
 module _ (v : PassView) (t : ℕ) (h : IsPass v) (state : v.state ≡ Level t) (node : ℕ) (pending : In node v.pending) (g : Grove Kept) (same : IsSameForest v.forest g) (live : live_nodes g ≡ live_nodes v.forest)
-    (st : Store) (g' : Grove Kept) (st' : Store) (rd' : Relations) (w w' : Work) (work : HasWork v w w') (is_born : Bool) (born_is : is_born ≡ is_none (answer_at (now_in v) node)) (ps : List ℕ) where
+    (st : Store) (g' : Grove Kept) (st' : Store) (rd' : Relations) (ls : Bool) (w w' : Work) (work : HasWork v w w') (is_born : Bool) (born_is : is_born ≡ is_none (answer_at (now_in v) node)) (ps : List ℕ) where
   abbrev a : IsAsked v t h state node
   a = asked v t h state node pending
 
@@ -100,7 +101,7 @@ module _ (v : PassView) (t : ℕ) (h : IsPass v) (state : v.state ≡ Level t) (
   s = stage_of v
 
   abbrev v' : PassView
-  v' = after v g' st' rd' ps w'
+  v' = after v g' st' rd' ls ps w'
 
   rest_same : rest_of g ≡ P.rest_in v
   rest_same = ap (λ (cs : List (Change Kept)). undone cs (now_of g)) same.changes ∙ ap (undone (changes_in v.forest)) same.now
@@ -158,14 +159,14 @@ module _ (v : PassView) (t : ℕ) (h : IsPass v) (state : v.state ≡ Level t) (
       }
 
   -- from what the parts become to the pass
-  over : (o : Option Kept) (fs : List Faulted) (rn : List ℕ) (b : ℕ) (rd : Relations) → ps ≡ a.front ++ a.back
+  over : (o : Option Kept) (fs : List Faulted) (rn : List ℕ) (b : ℕ) (rd : Relations) → ls ≡ v.listed → ps ≡ a.front ++ a.back
       → now_of g' ≡ set o → rest_of g' ≡ P.rest_in v → g'.root ≡ v.forest.root → st' ≡ st → rd' ≡ rd → w'.faults.items ≡ fs → w'.renewed.items ≡ rn → w'.born ≡ b
       → live_nodes g' ≤ live_nodes v.forest → IsStored (now_of g') (changes_in g') g'.root st'
       → ((k : ℕ) → k ≢ node → fault_in k fs ≡ fault_in k v.faults)
       → ((k : ℕ) → answer_at (set o) k ≡ None → answer_at (now_in v) k ≡ None) → AreByLevel (level_nodes (now_in v) v.forest.root) t v.first_renewed rn
       → (undone (changes_in g') (set o) ≡ P.rest_in v → IsAtLevel (stepped s (set o) (changes_in g') st rd (a.front ++ a.back) fs rn b) t)
       → IsStepped v v' node
-  over o fs rn b rd less nodes rest root store reads faults renewed born few stored others bare levels level = record {
+  over o fs rn b rd same_listed less nodes rest root store reads faults renewed born few stored others bare levels level = record {
     pass = record {
       stored = stored;
       few = (let f = h.few in omega (arith, few, f));
@@ -194,15 +195,15 @@ module _ (v : PassView) (t : ℕ) (h : IsPass v) (state : v.state ≡ Level t) (
   }
     where
       whole : ◌≡◌ {A = Stage} (stage_of v') (stepped s (set o) (changes_in g') st rd (a.front ++ a.back) fs rn b)
-      whole = same_stage s (set o) (now_of g') (changes_in g') g'.root st st' rd rd' (a.front ++ a.back) ps fs w'.faults.items rn w'.renewed.items b w'.born w'.dropped.items w'.moved.items
-          nodes root store reads less faults renewed born work.dropped work.moved
+      whole = same_stage s (set o) (now_of g') (changes_in g') g'.root st st' rd rd' ls (a.front ++ a.back) ps fs w'.faults.items rn w'.renewed.items b w'.born w'.dropped.items w'.moved.items
+          nodes root store reads same_listed less faults renewed born work.dropped work.moved
 
   -- no answer is new
-  still : (fs : List Faulted) → ps ≡ a.front ++ a.back → AddsNoAnswer (record { forest = g; store = st; reads = v.reads; work = w }) (record { forest = g'; store = st'; reads = rd'; work = w' }) → w'.faults.items ≡ fs
+  still : (fs : List Faulted) → ps ≡ a.front ++ a.back → AddsNoAnswer (record { forest = g; store = st; reads = v.reads; listed = v.listed; work = w }) (record { forest = g'; store = st'; reads = rd'; listed = ls; work = w' }) → w'.faults.items ≡ fs
       → ((b : Kept) → IsMade v.store b → StaysMade v.store st b) → NoneComes v.store st → ((k : ℕ) → k ≢ node → fault_in k fs ≡ fault_in k v.faults)
       → (undone (changes_in g') (set a.n.answer) ≡ P.rest_in v → IsAtLevel (stepped s (set a.n.answer) (changes_in g') st v.reads (a.front ++ a.back) fs v.renewed v.born) t) → IsStepped v v' node
   still fs less k faults stays none others level =
-      over a.n.answer fs v.renewed v.born v.reads less
+      over a.n.answer fs v.renewed v.born v.reads k.listed less
       (ap now_of k.forest ∙ same.now ∙ sym again) (ap rest_of k.forest ∙ rest_same) (ap (λ (f : Grove Kept). f.root) k.forest ∙ same.root) k.store k.reads faults (k.renewed ∙ work.renewed) (k.born ∙ work.born)
       (let l = ap live_nodes k.forest in omega (arith, l, live))
       (stored_same (now_in v) (now_of g') (changes_in v.forest) (changes_in g') v.forest.root g'.root st st' (ap now_of k.forest ∙ same.now) (ap changes_in k.forest ∙ same.changes) (ap (λ (f : Grove Kept). f.root) k.forest ∙ same.root) k.store
@@ -211,7 +212,7 @@ module _ (v : PassView) (t : ℕ) (h : IsPass v) (state : v.state ≡ Level t) (
 
   module _ {L : Type 0} (p : ℕ) where
     pub over_all : (r : Result (Asked L) AskRefusal) → IsReplied s t node p st r → ps ≡ a.front ++ a.back
-        → KeepsOutcome node is_born (record { forest = g; store = st; reads = v.reads; work = w }) (record { forest = g'; store = st'; reads = rd'; work = w' }) r → IsStepped v v' node
+        → KeepsOutcome node is_born (record { forest = g; store = st; reads = v.reads; listed = v.listed; work = w }) (record { forest = g'; store = st'; reads = rd'; listed = ls; work = w' }) r → IsStepped v v' node
     over_all (Ok Same) r less k =
         still v.faults less k.0 (k.1 ∙ work.faults) (λ b m. stays_kept v.store st b r.store m) (none_kept v.store st r.store) (λ j ne. refl)
         (level_same s t node a.n a.front a.back a.next (made_now v t h state) p st r (changes_in g'))
@@ -225,7 +226,7 @@ module _ (v : PassView) (t : ℕ) (h : IsPass v) (state : v.state ≡ Level t) (
         let nodes : now_of g' ≡ set (Some b) = t'.sets.now ∙ ap (λ (m : Nodes Kept). with_node m node (Some (with_answer (Some b) a.n))) same.now in
         let root : g'.root ≡ v.forest.root = t'.sets.root ∙ same.root in
         let changes : changes_in g' ≡ changes_in v.forest ++ note_of node a.n ∷ [] = t'.noted ∙ ap (λ (cs : List (Change Kept)). cs ++ note_of node a.n ∷ []) same.changes in
-        over (Some b) v.faults (v.renewed ++ node ∷ []) w'.born rd' less nodes (t'.sets.rest ∙ rest_same) root k.store refl (k.faults ∙ work.faults)
+        over (Some b) v.faults (v.renewed ++ node ∷ []) w'.born rd' k.listed less nodes (t'.sets.rest ∙ rest_same) root k.store refl (k.faults ∙ work.faults)
         (k.renewed ∙ ap (λ (l : List ℕ). l ++ node ∷ []) work.renewed) refl
         (let l = t'.live in omega (arith, l, live))
         (stored_same (set (Some b)) (now_of g') (changes_in v.forest ++ note_of node a.n ∷ []) (changes_in g') v.forest.root g'.root st st' nodes changes root k.store
@@ -242,9 +243,9 @@ module _ (v : PassView) (t : ℕ) (h : IsPass v) (state : v.state ≡ Level t) (
 
 module _ (v : PassView) (t : ℕ) (h : IsPass v) (state : v.state ≡ Level t) where
   -- the forest and the lists are what they were, and answers stay
-  kept_pass : (g : Grove Kept) (st : Store) (rd : Relations) (w : Work) (ps : List ℕ) → IsSameForest v.forest g → live_nodes g ≡ live_nodes v.forest
-      → ((a : Kept) → IsMade v.store a → StaysMade v.store st a) → NoneComes v.store st → SettledStay v.reads rd → rd.pending ≡ v.reads.pending → HasWork v w w → ps ≡ v.pending → IsPass (after v g st rd ps w)
-  kept_pass g st rd w ps same live stays none settled quiet work less = record {
+  kept_pass : (g : Grove Kept) (st : Store) (rd : Relations) (ls : Bool) (w : Work) (ps : List ℕ) → IsSameForest v.forest g → live_nodes g ≡ live_nodes v.forest
+      → ((a : Kept) → IsMade v.store a → StaysMade v.store st a) → NoneComes v.store st → SettledStay v.reads rd → rd.pending ≡ v.reads.pending → ls ≡ v.listed → HasWork v w w → ps ≡ v.pending → IsPass (after v g st rd ls ps w)
+  kept_pass g st rd ls w ps same live stays none settled quiet same_listed work less = record {
     stored = stored_same (now_in v) (now_of g) (changes_in v.forest) (changes_in g) v.forest.root g.root st st same.now same.changes same.root refl (stored_in (now_in v) (changes_in v.forest) v.forest.root v.store st stays none h.stored);
     few = (let f = h.few in omega (arith, f, live));
     unmarked = h.unmarked;
@@ -252,10 +253,10 @@ module _ (v : PassView) (t : ℕ) (h : IsPass v) (state : v.state ≡ Level t) w
     sized = subst (λ (m : Nodes Kept). HaveSizes m g.root v.sizes) (sym rest) (subst (λ r. HaveSizes (P.rest_in v) r v.sizes) (sym same.root) h.sized);
     made_sized = subst (SizesAt (now_of g) g.root v.next.depth v.made) (sym state) (subst (λ (m : Nodes Kept). HaveSizesTo m g.root v.made t) (sym same.now) (subst (λ r. HaveSizesTo (now_in v) r v.made t) (sym same.root)
         (subst (SizesAt (now_in v) v.forest.root v.next.depth v.made) state h.made_sized)));
-    holds = subst (HoldsAt (stage_of (after v g st rd ps w))) (sym state)
+    holds = subst (HoldsAt (stage_of (after v g st rd ls ps w))) (sym state)
         (subst (λ (z : Stage). IsAtLevel z t) (sym whole) (level_waits (stage_of v) t st rd (made_now v t h state) stays settled quiet (at v t h state)));
-    front = subst (FrontAt (after v g st rd ps w)) (sym state) (record {
-      front = subst (IsLevelFront (repair_of (after v g st rd ps w) t) v.seats) (sym work.front) (front_stays (repair_of v t) g st same_level v.seats v.front told.front);
+    front = subst (FrontAt (after v g st rd ls ps w)) (sym state) (record {
+      front = subst (IsLevelFront (repair_of (after v g st rd ls ps w) t) v.seats) (sym work.front) (front_stays (repair_of v t) g st same_level v.seats v.front told.front);
       within = by.within;
       before = by.before;
       here = by.here;
@@ -267,13 +268,14 @@ module _ (v : PassView) (t : ℕ) (h : IsPass v) (state : v.state ≡ Level t) w
       rest : rest_of g ≡ P.rest_in v
       rest = ap (λ (cs : List (Change Kept)). undone cs (now_of g)) same.changes ∙ ap (undone (changes_in v.forest)) same.now
 
-      whole : ◌≡◌ {A = Stage} (stage_of (after v g st rd ps w)) (record (stage_of v) { store = st; reads = rd })
+      whole : ◌≡◌ {A = Stage} (stage_of (after v g st rd ls ps w)) (record (stage_of v) { store = st; reads = rd })
       whole = λ i. record (stage_of v) {
         now = same.now i;
         changes = same.changes i;
         root = same.root i;
         store = st;
         reads = rd;
+        listed = same_listed i;
         pending = less i;
         faults = work.faults i;
         renewed = work.renewed i;
@@ -303,14 +305,14 @@ module _ (v : PassView) (t : ℕ) (h : IsPass v) (state : v.state ≡ Level t) w
 
   module _ (g : Grove Kept) (same : IsSameForest v.forest g) (live : live_nodes g ≡ live_nodes v.forest) where
     -- there is more room
-    pub roomy_pass : (w : Work) (ps : List ℕ) → HasWork v w w → ps ≡ v.pending → IsPass (after v g v.store v.reads ps w)
-    roomy_pass w ps work less = kept_pass g v.store v.reads w ps same live (λ a m. record { made = m; answer = refl }) (λ r e. e) (λ reader seen. refl) refl work less
+    pub roomy_pass : (w : Work) (ps : List ℕ) → HasWork v w w → ps ≡ v.pending → IsPass (after v g v.store v.reads v.listed ps w)
+    roomy_pass w ps work less = kept_pass g v.store v.reads v.listed w ps same live (λ a m. record { made = m; answer = refl }) (λ r e. e) (λ reader seen. refl) refl refl work less
 
-    pub waits_pass : {L : Type 0} (g' : Grove Kept) (st : Store) (st' : Store) (rd' : Relations) (w w' : Work) (o : Option Kept) (r : Result (Asked L) AskRefusal) (ps : List ℕ) → HasWork v w w' → ps ≡ v.pending → KeepsStore v.store st o r
-        → KeepsNothing (record { forest = g; store = st; reads = v.reads; work = w }) (record { forest = g'; store = st'; reads = rd'; work = w' }) r → IsPass (after v g' st' rd' ps w')
-    waits_pass g' st st' rd' w w' o r ps work less keeps k =
-        kept_pass g' st' rd' w' ps (record { now = ap now_of k.forest ∙ same.now; changes = ap changes_in k.forest ∙ same.changes; root = ap (λ (f : Grove Kept). f.root) k.forest ∙ same.root }) (ap live_nodes k.forest ∙ live)
-        (stays_refused v.store st st' o r keeps k.store) (none_refused v.store st st' o r keeps k.store) k.settled k.read
+    pub waits_pass : {L : Type 0} (g' : Grove Kept) (st : Store) (st' : Store) (rd' : Relations) (ls : Bool) (w w' : Work) (o : Option Kept) (r : Result (Asked L) AskRefusal) (ps : List ℕ) → HasWork v w w' → ps ≡ v.pending → KeepsStore v.store st o r
+        → KeepsNothing (record { forest = g; store = st; reads = v.reads; listed = v.listed; work = w }) (record { forest = g'; store = st'; reads = rd'; listed = ls; work = w' }) r → IsPass (after v g' st' rd' ls ps w')
+    waits_pass g' st st' rd' ls w w' o r ps work less keeps k =
+        kept_pass g' st' rd' ls w' ps (record { now = ap now_of k.forest ∙ same.now; changes = ap changes_in k.forest ∙ same.changes; root = ap (λ (f : Grove Kept). f.root) k.forest ∙ same.root }) (ap live_nodes k.forest ∙ live)
+        (stays_refused v.store st st' o r keeps k.store) (none_refused v.store st st' o r keeps k.store) k.settled k.read k.listed
         (record { faults = k.faults ∙ work.faults; renewed = k.renewed ∙ work.renewed; born = k.born ∙ work.born; first_renewed = work.first_renewed; dropped = work.dropped; moved = work.moved; front = work.front })
         less
 

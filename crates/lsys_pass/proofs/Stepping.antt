@@ -1,5 +1,5 @@
 -- A level when one of its nodes is asked: its outcome is kept, and it is pending no more.
-use Rattle.std.proofs.Common.{◌≡◌, ◌≢◌, ◌⊎◌, ◌↔◌, ◌+◌, ◌<◌, ◌≤◌, ℕ, true, List, [], ◌∷◌, ◌++◌, Option, Some, None, refl, sym, ap, ◌∙◌, subst, inl, inr, arith, slice_get}
+use Rattle.std.proofs.Common.{◌≡◌, ◌≢◌, ◌⊎◌, ◌↔◌, ◌+◌, ◌<◌, ◌≤◌, ℕ, true, false, List, [], ◌∷◌, ◌++◌, Option, Some, None, refl, sym, ap, ◌∙◌, subst, inl, inr, arith, slice_get}
 use Rattle.std.specs.Prelude.{count_by, is_none}
 use Rattle.std.specs.Option.{option_and_then}
 use Rattle.std.proofs.lemmas.Bool.{cases_eq}
@@ -106,7 +106,8 @@ pub record Renews (s : Stage) (t node : ℕ) (n : Node Kept) (o : Option Kept) (
   pub old_in : (k : ℕ) → In k s.renewed → In k rn
   pub new_in : (k : ℕ) → In k rn → In k s.renewed ⊎ (k ≡ node)
   pub kept : (o ≡ n.answer) ⊎ In node rn
-  pub read : (reader seen : ℕ) → (is_pending rd reader seen ≡ true) ↔ (In reader rn × HasRead (with_node s.now node (Some (with_answer o n))) st reader seen)
+  pub read : s.listed ≡ true → (reader seen : ℕ) → (is_pending rd reader seen ≡ true) ↔ (In reader rn × HasRead (with_node s.now node (Some (with_answer o n))) st reader seen)
+  pub unread : s.listed ≡ false → rd.pending ≡ []
   pub apart : AreApart rn
   pub needed : In node rn → (p : ℕ) → slice_get (level_nodes s.now s.root t) p ≡ Some node → IsNeededAt s t p
   pub all : (p : ℕ) → slice_get (level_nodes s.now s.root t) p ≡ Some node → IsNeededAt s t p → In node rn ⊎ (fault_in node fs ≡ None → ⊥)
@@ -199,7 +200,7 @@ module _ (s : Stage) (t node : ℕ) (n : Node Kept) (before after : List ℕ) (x
     stay_was k a e = h.stays a (x.at.rest.made k a e)
 
     rest : Rests s'
-    rest = subst (λ (w : Nodes Kept). IsResting s.system s.limit w s.root st rd s.seats) (sym was_is)
+    rest = subst (λ (w : Nodes Kept). IsResting true s.system s.limit w s.root st rd s.seats) (sym was_is)
         (rest_stays s.system s.limit (was s) s.root s.store st s.reads rd s.seats stay_was h.settled x.at.rest)
 
     once : AreOnce (kins m) s.root
@@ -307,6 +308,7 @@ module _ (s : Stage) (t node : ℕ) (n : Node Kept) (before after : List ℕ) (x
     lists : HasLists s' t
     lists = record {
       read = r.read;
+      unread = r.unread;
       renewed_are = λ k i. elim (r.new_in k i) [
         | inl old ↦ let w = x.at.lists.renewed_are k old in (w.0, w.1, in_level w.0 k w.2)
         | inr q ↦ (t, omega arith, in_level t k (subst (λ j. In j (level_nodes s.now s.root t)) (sym q) on_level))

@@ -1,5 +1,5 @@
 -- Answers stay what they are while others come into their store.
-use Rattle.std.proofs.Common.{◌≡◌, ℕ, List, [], ◌∷◌, length, Option, Some, sym, ap, ◌∙◌, subst}
+use Rattle.std.proofs.Common.{◌≡◌, ℕ, Bool, List, [], ◌∷◌, length, Option, Some, sym, ap, ◌∙◌, subst}
 use Rattle.std.specs.Prelude.{flat_map}
 use Rattle.lsys_spec.specs.Rows.{In}
 use Rattle.lsys_spec.specs.Systems.{System}
@@ -66,8 +66,8 @@ read_back old new m stays reader seen h = record {
 }
 
 -- what is kept at rest stays
-pub rest_stays : (s : System) (limit : ℕ) (m : Nodes Kept) (root : ℕ) (old new : Store) (reads reads' : Relations) (seats : List Seat)
-    → AllStay m old new → SettledStay reads reads' → IsResting s limit m root old reads seats → IsResting s limit m root new reads' seats
+pub rest_stays : {listed : Bool} (s : System) (limit : ℕ) (m : Nodes Kept) (root : ℕ) (old new : Store) (reads reads' : Relations) (seats : List Seat)
+    → AllStay m old new → SettledStay reads reads' → IsResting listed s limit m root old reads seats → IsResting listed s limit m root new reads' seats
 rest_stays s limit m root old new reads reads' seats stays same h = record {
   spelled = h.spelled;
   is = h.is;
@@ -79,9 +79,9 @@ rest_stays s limit m root old new reads reads' seats stays same h = record {
   answered = λ t p k below at. answered_stays old new s t (level_spots m root t) p (answer_at m k) (stays k) (h.answered t p k below at);
   others = h.others;
   made = λ k a e. (stays k a e).made;
-  read = λ reader seen. (
-    λ e. read_on old new m stays reader seen ((h.read reader seen).0 (sym (same reader seen) ∙ e)),
-    λ r. same reader seen ∙ (h.read reader seen).1 (read_back old new m stays reader seen r),
+  read = λ known reader seen. (
+    λ e. read_on old new m stays reader seen ((h.read known reader seen).0 (sym (same reader seen) ∙ e)),
+    λ r. same reader seen ∙ (h.read known reader seen).1 (read_back old new m stays reader seen r),
   );
   seated = h.seated;
 }

@@ -1,5 +1,5 @@
 -- What is answered where a level has no next one, or a system no first one.
-use Rattle.std.proofs.Common.{◌≡◌, ◌+◌, ◌<◌, ◌≤◌, ℕ, zero, suc, List, [], ◌∷◌, ◌++◌, length, Result, Ok, Err, refl, sym, ap, ◌∙◌, subst, arith}
+use Rattle.std.proofs.Common.{◌≡◌, ◌+◌, ◌<◌, ◌≤◌, ℕ, suc, List, length, Result, Ok, Err, refl, sym, ap, ◌∙◌, subst, arith}
 use Rattle.std.specs.Prelude.{IfErr, OnOk}
 use Rattle.lsys_spec.specs.Systems.{System, WellSpelled}
 use Rattle.lsys_spec.specs.Levels.{LevelSymbol}
@@ -7,7 +7,7 @@ use Rattle.lsys_spec.specs.Values as values
 use Rattle.lsys_spec.specs.Values.{◌and_then◌}
 use Rattle.lsys_spec.specs.Choice as choice
 use Rattle.lsys_spec.specs.Choice.{Arithmetic}
-use Rattle.lsys_spec.specs.Meaning.{LevelRefusal, FaultAt, OverLimit, first_level, next_level, last_level, within_limit, meaning_to}
+use Rattle.lsys_spec.specs.Meaning.{LevelRefusal, FaultAt, OverLimit, first_level, next_level, meaning_to}
 use Rattle.lsys_laws.proofs.UpTo.{level_count}
 use Rattle.lsys_rewrite.specs.Faults.{fault_of}
 use Rattle.lsys_rewrite.specs.declared.refusal.FaultKind.{FaultKind}

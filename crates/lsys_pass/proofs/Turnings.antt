@@ -31,6 +31,7 @@ use Rattle.lsys_pass.specs.declared.work.Work.{Work}
 use Rattle.lsys_pass.specs.Stages.{Rests}
 use Rattle.lsys_pass.specs.Passes.{PassView, stage_of, repair_of, now_in, rest_in, HoldsAt, IsPass}
 use Rattle.lsys_pass.specs.Fresh.{Goes, HasListsBefore, AreDroppedBefore, IsMadeTo, WasLookedAt, WasJustMade, HasFound}
+use Rattle.lsys_pass.proofs.Finishing.{rest_seats}
 
 -- 1. depths
 
@@ -55,7 +56,7 @@ module _ (v : PassView) (t : ℕ) (h : IsPass v) (failed : v.state ≡ Failed) (
   has_seat k live = let n = some_of (now_in v k) live in x.made.room k n.0 n.1
 
   pub room_there : HasSeatsForFound v.forest v.reads v.front.changes v.seats
-  room_there = seat_room (repair_of v t) v.seats v.reads v.front.changes x.made.spots x.differs x.looks.looked_are rests.read has_seat
+  room_there = seat_room (repair_of v t) v.seats v.reads v.front.changes x.made.spots x.differs x.looks.looked_are (rests.read refl) has_seat
 
   pub levels_there : t < 2 ^ 32 → AreOnLevels v.forest v.front.changes
   levels_there small = on_levels (repair_of v t) v.front.changes small x.made.spots x.differs x.looks.looked_are
@@ -255,6 +256,7 @@ module _ (v : PassView) (t : ℕ) (h : IsPass v) (failed : v.state ≡ Failed) (
 
     has_found : HasFound after t beside readers
     has_found = record {
+      rest = rest_seats v.system v.limit (rest_in v) v.forest.root v.store v.reads v.seats seats' same rests;
       made = made;
       lists = lists;
       dropped = dropped_before;
@@ -335,6 +337,7 @@ module _ (v w : PassView) (seats : List Seat) (work : Work) (view : v ≡ w) (l 
           was = refl;
           store = refl;
           reads = refl;
+          listed = refl;
           renewed = l.renewed;
           born = l.born;
           same_seats = same;

@@ -83,6 +83,7 @@ after v g d dropped seats pending = record v { forest = g; front = d; dropped = 
 pub after_failed : (v : PassView) (g : Grove Kept) (d : Differences) (dropped : List ℕ) (seats : List Seat) (pending : List ℕ) → IsPass v → v.state ≡ Failed → AreSound g.root (changes_in g) (now_of g) → LosesOnly v.forest g
     → ((k : ℕ) → is_marked seats k ≡ false) → SameSeats v.seats seats → KeepsSeats v.seats seats → IsPass (after v g d dropped seats pending)
 after_failed v g d dropped seats pending h state sound only clear same keeps = still_failed v (after v g d dropped seats pending) h (record {
+  was_failed = state;
   failed = state;
   stored = stored_less v.forest g v.store sound only h.stored;
   few = (let a = h.few in let b = only.live in omega (arith, a, b));
@@ -96,6 +97,7 @@ after_failed v g d dropped seats pending h state sound only clear same keeps = s
     was = only.rest;
     store = refl;
     reads = refl;
+    listed = refl;
     renewed = refl;
     born = refl;
     same_seats = same;
@@ -320,6 +322,7 @@ module _ (v : PassView) (t : ℕ) (h : IsPass v) (beside readers : List ℕ) (f 
       was = l.only.rest;
       store = refl;
       reads = refl;
+      listed = refl;
       renewed = refl;
       born = refl;
       same_seats = same;

@@ -69,10 +69,11 @@ module _ (s : Stage) (t : ℕ) (st : Store) (rd : Relations) (made : AllMade s.n
       apart = h.answers.apart;
     };
     lists = record {
-      read = λ reader seen. (
-        λ q. let r = (h.lists.read reader seen).0 (ap (λ ps. pairs_have ps reader seen) (sym quiet) ∙ q) in (r.0, read_on s.store st s.now stay_now reader seen r.1),
-        λ q. ap (λ ps. pairs_have ps reader seen) quiet ∙ (h.lists.read reader seen).1 (q.0, read_back s.store st s.now stay_now reader seen q.1),
+      read = λ known reader seen. (
+        λ q. let r = (h.lists.read known reader seen).0 (ap (λ ps. pairs_have ps reader seen) (sym quiet) ∙ q) in (r.0, read_on s.store st s.now stay_now reader seen r.1),
+        λ q. ap (λ ps. pairs_have ps reader seen) quiet ∙ (h.lists.read known reader seen).1 (q.0, read_back s.store st s.now stay_now reader seen q.1),
       );
+      unread = λ not. quiet ∙ h.lists.unread not;
       renewed_are = h.lists.renewed_are;
       renewed_done = h.lists.renewed_done;
       dropped_are = h.lists.dropped_are;

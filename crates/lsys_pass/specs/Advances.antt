@@ -27,7 +27,7 @@ pub record IsAskedTo (s : Stage) (t : ℕ) : Type 0 where
 abbrev pub symbols_wanted : Stage → ℕ → ℕ
 symbols_wanted s t = count_wanted s.next.numbering s.now (kept_successors s.now) (level_nodes s.now s.root t)
 
--- The last rest stays, what was read, and which answers are new.
+-- The last rest stays, what was read, whether that is listed, and which answers are new.
 pub record KeepsRest (old new : Stage) : Type 0 where
   pub system : new.system ≡ old.system
   pub limit : new.limit ≡ old.limit
@@ -35,6 +35,7 @@ pub record KeepsRest (old new : Stage) : Type 0 where
   pub was : was new ≡ was old
   pub store : new.store ≡ old.store
   pub reads : new.reads ≡ old.reads
+  pub listed : new.listed ≡ old.listed
   pub renewed : new.renewed ≡ old.renewed
   pub born : new.born ≡ old.born
   pub same_seats : SameSeats old.seats new.seats

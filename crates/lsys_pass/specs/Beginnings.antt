@@ -17,7 +17,8 @@ use Rattle.lsys_children.specs.Needs.{need_for, number_told, wanted_symbols}
 use Rattle.lsys_children.specs.Made.{TellsAllOf}
 use Rattle.lsys_front.specs.Fronts.{nothing}
 use Rattle.lsys_pass.specs.declared.state.PassState.TheVariants.{Rest}
-use Rattle.lsys_pass.specs.Passes.{PassView, now_in, rest_in, IsPass}
+use Rattle.lsys_pass.specs.Stages.{Rests}
+use Rattle.lsys_pass.specs.Passes.{PassView, stage_of, now_in, rest_in, IsPass}
 use Rattle.lsys_pass.specs.Moves.{ArrivesAt}
 use Rattle.lsys_pass.specs.Refusals.{IsFirstRefusal}
 
@@ -69,9 +70,10 @@ RefusesLongAxiom limit symbols r =
 
 -- 2. the pass
 
--- it was at rest, and nothing changed since
-abbrev pub WasStill : PassView → Type 0
-WasStill v = IsPass (record v { state = Rest; next = v.system })
+-- it was at rest, where it was known who read what, and nothing changed since
+pub record WasStill (v : PassView) : Type 0 where
+  pub pass : IsPass (record v { state = Rest; next = v.system })
+  pub rest : Rests (stage_of v)
 
 -- It left its rest to make this system, and has its first level, or is done where that is the last one. No answer is new.
 pub record Begun (old new : PassView) (s : System) : Type 0 where

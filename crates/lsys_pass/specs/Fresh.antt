@@ -17,7 +17,7 @@ use Rattle.lsys_front.specs.Fronts.{IsLevelFront, MayHaveOthers}
 use Rattle.lsys_pass.specs.declared.state.PassState.TheVariants.{Level}
 use Rattle.lsys_pass.specs.Sizes.{HaveSizesTo, opens_at, with_level}
 use Rattle.lsys_pass.specs.Rests.{AreCountedLow}
-use Rattle.lsys_pass.specs.Stages.{Stage, was}
+use Rattle.lsys_pass.specs.Stages.{Stage, was, Rests}
 use Rattle.lsys_pass.specs.Advances.{IsAskedTo, KeepsRest, StaysAbove, Advances, HasLastLevel}
 use Rattle.lsys_pass.specs.Passes.{PassView, stage_of, repair_of, AllHaveSeats, IsStill, HasFront, IsPass}
 use Rattle.lsys_pass.specs.Passes as P
@@ -131,8 +131,9 @@ pub record WasJustMade (v : PassView) (t : ℕ) : Type 0 where
   pub bare : v.front.bare ≡ []
   pub looks : WasLookedAt v t
 
--- It is known who turned, and who else may have another question.
+-- It is known who turned, and who else may have another question, by who read what at the last rest.
 pub record HasFound (v : PassView) (t : ℕ) (beside readers : List ℕ) : Type 0 where
+  pub rest : Rests (stage_of v)
   pub made : IsMadeTo v t
   pub lists : HasListsBefore (stage_of v) (t + 1)
   pub dropped : AreDroppedBefore (stage_of v) (t + 1)
@@ -179,5 +180,5 @@ pub record IsLast (v : PassView) (t : ℕ) : Type 0 where
 pub data Origin (v : PassView) (t : ℕ) : Type 0 where
   behind : (w : PassView) (u : ℕ) → t ≡ suc u → WasAsked w u → Goes (stage_of w) (stage_of v) t
       → Origin v t
-  at_first : (w : PassView) → t ≡ 0 → IsStill (stage_of w)
+  at_first : (w : PassView) → t ≡ 0 → IsStill (stage_of w) → Rests (stage_of w)
       → Goes (record (stage_of w) { next = v.next }) (stage_of v) t → Origin v t

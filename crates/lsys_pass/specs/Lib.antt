@@ -1,3 +1,4 @@
+pub mod Readers
 pub mod Rests
 pub mod Stages
 pub mod Passes
@@ -22,3 +23,4 @@ pub mod Queues
 pub mod NextParents
 pub mod SeatedAnew
 pub mod Refusals
+pub mod Listings

@@ -1,5 +1,5 @@
 -- What a contract sees of a pass, and what holds of it between calls.
-use Rattle.std.specs.Prelude.{◌≡◌, Some, None, IsSome, ◌<◌, ◌≤◌, ◌^◌, ℕ, false, List, [], length, take, drop}
+use Rattle.std.specs.Prelude.{◌≡◌, Some, None, IsSome, ◌<◌, ◌≤◌, ◌^◌, ℕ, Bool, false, List, [], length, take, drop}
 use Rattle.lsys_spec.specs.Rows.{In}
 use Rattle.lsys_spec.specs.Systems.{System}
 use Rattle.lsys_spec.specs.Questions.{questions}
@@ -21,9 +21,9 @@ use Rattle.lsys_pass.specs.declared.state.PassState.TheVariants.{Rest, Level, Do
 use Rattle.lsys_pass.specs.declared.fault.Faulted.{Faulted}
 use Rattle.lsys_pass.specs.declared.sizes.Size.{Size}
 use Rattle.lsys_pass.specs.Sizes.{HaveSizes, SizesAt}
-use Rattle.lsys_pass.specs.Stages.{Stage, IsStored, Rests, IsAtLevel, IsDone}
+use Rattle.lsys_pass.specs.Stages.{Stage, IsStored, RestsAs, Rests, IsAtLevel, IsDone}
 
--- A pass: the forest, the store of its answers, and who read what; the seats of the last rest; the
+-- A pass: the forest, the store of its answers, and who read what, and whether that is listed; the seats of the last rest; the
 -- sizes of its levels, and of those that were made since; the system of the last rest, and the
 -- one that is being made, which at rest is the same; the limit, and where the pass stands. Then the lists of a stage, and where
 -- among those with another answer the nodes of its level begin; what differs on that level; and how many questions the system of
@@ -32,6 +32,7 @@ pub record PassView : Type 0 where
   pub forest : Grove Kept
   pub store : Store
   pub reads : Relations
+  pub listed : Bool
   pub seats : List Seat
   pub sizes : List Size
   pub made : List Size
@@ -56,6 +57,7 @@ stage_of v = record {
   root = v.forest.root;
   store = v.store;
   reads = v.reads;
+  listed = v.listed;
   seats = v.seats;
   system = v.system;
   next = v.next;
@@ -91,7 +93,7 @@ HasOwnRuns v = AreOwnRuns (now_in v) v.store
 
 -- nothing has changed since the last rest, and nothing is kept of an edit, nor any run that no answer holds
 pub record IsStill (s : Stage) : Type 0 where
-  pub rest : Rests s
+  pub rest : RestsAs s.listed s
   pub runs : AreOwnRuns s.now s.store
   pub changes : s.changes ≡ []
   pub next : s.next ≡ s.system

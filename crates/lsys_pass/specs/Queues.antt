@@ -1,5 +1,5 @@
 -- Nodes that are still to be asked, and how many are gone.
-use Rattle.std.specs.Prelude.{◌≡◌, ◌<◌, ◌≤◌, ◌+◌, ◌/◌, ℕ, Bool, true, false, List, [], Some, Vec, vec_capacity, length, map, take, drop, slice_get}
+use Rattle.std.specs.Prelude.{◌≡◌, ◌<◌, ◌≤◌, ◌+◌, ◌/◌, ℕ, Bool, true, false, List, [], Some, Vec, vec_capacity, length, take, drop, slice_get}
 use Rattle.std.specs.declared.alloc.Global.{Global}
 use Rattle.std.specs.List.{filter_map}
 use Rattle.lsys_pass.specs.declared.queue.Slot.{Slot}

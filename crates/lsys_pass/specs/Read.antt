@@ -1,11 +1,13 @@
 -- What the entries of a trace name, as pairs of a reader and what it saw.
-use Rattle.std.specs.Prelude.{◌≡◌, ◌++◌, ℕ, List, [], map, flat_map, not, ◌&&◌, ◌||◌}
+use Rattle.std.specs.Prelude.{◌≡◌, ◌++◌, ℕ, Bool, true, false, List, [], map, flat_map, not, ◌&&◌, ◌||◌}
 use Rattle.lsys_reads.specs.declared.Pair.{Pair}
 use Rattle.lsys_reads.specs.Relations.{Relations, is_pending, is_settled}
 use Rattle.lsys_reads.specs.Rows.{has}
 use Rattle.lsys_walks.specs.declared.entry.Entry.{Entry}
 use Rattle.lsys_walks.specs.Views.{noted_of}
 use Rattle.lsys_reads.specs.Levels.{tags_named}
+use Rattle.lsys_pass.specs.declared.read.Readers.{Readers}
+use Rattle.lsys_pass.specs.declared.work.Work.{Work}
 
 -- the tags that an entry names, whatever parameters a module has
 abbrev pub entry_tags : Entry → List ℕ
@@ -30,6 +32,15 @@ pub record ComesBehind (old new : List Pair) : Type 0 where
 abbrev pub AddsPairs : Relations → Relations → ℕ → List ℕ → Type 0
 AddsPairs old new reader tags = new.pending ≡ old.pending ++ pairs_of reader tags
 
+-- so it is where it is listed who read what; else nothing more is pending
+pub record NotesPairs (listed : Bool) (old new : Relations) (reader : ℕ) (tags : List ℕ) : Type 0 where
+  pub adds : listed ≡ true → AddsPairs old new reader tags
+  pub stays : listed ≡ false → new.pending ≡ old.pending
+
+-- so it is of what a pass keeps of it
+abbrev pub NotesRead : Readers → Readers → ℕ → List ℕ → Type 0
+NotesRead old new reader tags = NotesPairs old.is_listed old.reads new.reads reader tags
+
 -- Settled is what was pending, and what was settled of readers that have no new answer and were not
 -- dropped.
 abbrev pub SettlesReads : Relations → Relations → List ℕ → List ℕ → Type 0
@@ -38,3 +49,8 @@ SettlesReads old new renewed dropped =
     → is_settled new reader seen
     ≡ ((not (has renewed reader) && (not (has dropped reader) && is_settled old reader seen))
     || is_pending old reader seen)
+
+-- so it is of what a pass keeps of it, by its lists, where it is listed who read what
+abbrev pub SettlesReaders : Readers → Readers → Work → Type 0
+SettlesReaders old new work =
+    old.is_listed ≡ true → SettlesReads old.reads new.reads work.renewed.items work.dropped.items

@@ -1,5 +1,5 @@
 -- Why a level isn't made.
-use Rattle.std.specs.Prelude.{◌≡◌, ◌↔◌, ◌<◌, ◌+◌, ℕ, Result, Ok, Err, length}
+use Rattle.std.specs.Prelude.{◌≡◌, ◌↔◌, ◌<◌, ◌+◌, ℕ, Result, Err, length}
 use Rattle.lsys_spec.specs.Systems.{System}
 use Rattle.lsys_spec.specs.Meaning.{FaultAt, OverLimit, first_level, next_level, meaning_to}
 use Rattle.lsys_rewrite.specs.Faults.{fault_of}

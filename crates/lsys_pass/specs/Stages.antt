@@ -1,5 +1,5 @@
 -- What a pass keeps true while it makes the levels of another system.
-use Rattle.std.specs.Prelude.{◌≡◌, ◌<◌, ◌≤◌, ◌+◌, ◌^◌, ◌⊎◌, ◌↔◌, ℕ, true, List, [], ◌∷◌, length, count_by, is_none, Ok, Err, Option, Some, None, cond, nat_eq, slice_get}
+use Rattle.std.specs.Prelude.{◌≡◌, ◌<◌, ◌≤◌, ◌+◌, ◌^◌, ◌⊎◌, ◌↔◌, ℕ, Bool, true, false, List, [], ◌∷◌, length, count_by, is_none, Ok, Err, Option, Some, None, cond, nat_eq, slice_get}
 use Rattle.lsys_spec.specs.Rows.{In, AreApart}
 use Rattle.lsys_spec.specs.Systems.{System, WellSpelled}
 use Rattle.lsys_spec.specs.Levels.{ModuleValue, Module}
@@ -28,17 +28,18 @@ use Rattle.lsys_front.specs.Questioned.{AreSome}
 use Rattle.lsys_pass.specs.declared.fault.Faulted.{Faulted}
 use Rattle.lsys_pass.specs.Rests.{AreCountedLow, IsResting}
 
--- The nodes, what they were before each change since the last rest, and the root; the store of their answers; who read what; the
--- seats of the last rest; the system of the last rest, and the one that is being made; the limit; the nodes of the level that are
--- still to be asked, from left to right; those that have a fault; those that got another answer since the last rest, and how many
--- of them had none then; those that had one and are gone or have no question any more; and those whose seat tells others than
--- stand beside them now.
+-- The nodes, what they were before each change since the last rest, and the root; the store of their answers; who read what, and
+-- whether that is listed; the seats of the last rest; the system of the last rest, and the one that is being made; the limit; the
+-- nodes of the level that are still to be asked, from left to right; those that have a fault; those that got another answer since
+-- the last rest, and how many of them had none then; those that had one and are gone or have no question any more; and those whose
+-- seat tells others than stand beside them now.
 pub record Stage : Type 0 where
   pub now : Nodes Kept
   pub changes : List (Change Kept)
   pub root : ℕ
   pub store : Store
   pub reads : Relations
+  pub listed : Bool
   pub seats : List Seat
   pub system : System
   pub next : System
@@ -65,9 +66,14 @@ pub record IsStored (m : Nodes Kept) (changes : List (Change Kept)) (root : ℕ)
       → holds a r → holds b r → h ≡ i
   pub freed : (r : RunName) → (IsHeld run_in holds (answers m changes) r → ⊥) → run_in store r ≡ None
 
--- the forest of the last rest
+-- the forest of the last rest, and, if it is listed, who read what in it
+abbrev pub RestsAs : Bool → Stage → Type 0
+RestsAs listed s = IsResting listed s.system s.limit (was s) s.root s.store s.reads s.seats
+
+-- Likewise while an edit is under way, which has to know who read what: where it isn't listed nothing was answered, so nobody
+-- read anything.
 abbrev pub Rests : Stage → Type 0
-Rests s = IsResting s.system s.limit (was s) s.root s.store s.reads s.seats
+Rests s = RestsAs true s
 
 -- 2. a level
 
@@ -147,10 +153,16 @@ pub record HasAnswers (s : Stage) (t : ℕ) : Type 0 where
   pub in_order : AreSome s.pending (level_nodes s.now s.root t)
   pub apart : AreApart s.pending
 
--- Which answers are new, and which are gone or will be; what the new ones read is pending.
+-- what the new answers read is pending
+abbrev pub HaveNewRead : Stage → Type 0
+HaveNewRead s =
+    (reader seen : ℕ) → (is_pending s.reads reader seen ≡ true)
+    ↔ (In reader s.renewed × HasRead s.now s.store reader seen)
+
+-- Which answers are new, and which are gone or will be; what the new ones read is pending, where it is listed, and else nothing.
 pub record HasLists (s : Stage) (t : ℕ) : Type 0 where
-  pub read : (reader seen : ℕ) → (is_pending s.reads reader seen ≡ true)
-      ↔ (In reader s.renewed × HasRead s.now s.store reader seen)
+  pub read : s.listed ≡ true → HaveNewRead s
+  pub unread : s.listed ≡ false → s.reads.pending ≡ []
   pub renewed_are : (k : ℕ) → In k s.renewed
       → (u : ℕ) × (u ≤ t) × In k (level_nodes s.now s.root u)
   pub renewed_done : (k : ℕ) → In k s.renewed → In k s.pending → ⊥
@@ -212,8 +224,8 @@ pub record IsDone (s : Stage) : Type 0 where
   pub answered : (t p k : ℕ) → t < s.next.depth → slice_get (level_nodes s.now s.root t) p ≡ Some k
       → AnsweredAt s.next t s.now s.root s.store p k
   pub last : (k : ℕ) → In k (level_nodes s.now s.root s.next.depth) → answer_at s.now k ≡ None
-  pub read : (reader seen : ℕ) → (is_pending s.reads reader seen ≡ true)
-      ↔ (In reader s.renewed × HasRead s.now s.store reader seen)
+  pub read : s.listed ≡ true → HaveNewRead s
+  pub unread : s.listed ≡ false → s.reads.pending ≡ []
   pub renewed_are : (k : ℕ) → In k s.renewed
       → (u : ℕ) × (u < s.next.depth) × In k (level_nodes s.now s.root u)
   pub renewed_apart : AreApart s.renewed

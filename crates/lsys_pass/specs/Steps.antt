@@ -13,8 +13,9 @@ use Rattle.lsys_forest.specs.Nodes.{Node, with_answer}
 use Rattle.lsys_forest.specs.Changes.{OldAnswer}
 use Rattle.lsys_forest.specs.Groves.{Grove, Sets, now_of, changes_in, live_nodes}
 use Rattle.lsys_reads.specs.Levels.{tags_read}
+use Rattle.lsys_pass.specs.declared.read.Readers.{Readers}
 use Rattle.lsys_pass.specs.declared.work.Work.{Work}
-use Rattle.lsys_pass.specs.Read.{pairs_of}
+use Rattle.lsys_pass.specs.Read.{NotesPairs}
 
 -- node k, which was n, keeps this answer, and the change is noted
 pub record TakesAnswer (old new : Grove Kept) (k : ℕ) (n : Node Kept) (a : Kept) : Type 0 where
@@ -32,17 +33,19 @@ pub record StepParts : Type 0 where
   pub forest : Grove Kept
   pub store : Store
   pub reads : Relations
+  pub listed : Bool
   pub work : Work
 
-abbrev pub parts_of : Grove Kept → Store → Relations → Work → StepParts
-parts_of f s r w = record { forest = f; store = s; reads = r; work = w }
+abbrev pub parts_of : Grove Kept → Store → Readers → Work → StepParts
+parts_of f s r w = record { forest = f; store = s; reads = r.reads; listed = r.is_listed; work = w }
 
--- The node keeps a new answer. What it read is pending, and it is among those that were renewed.
+-- The node keeps a new answer. What it read is pending, where that is listed, and it is among those that were renewed.
 pub record KeepsNew (node : ℕ) (is_born : Bool) (old new : StepParts) (a : Kept) : Type 0 where
   pub kept : TakesAnswerAt old.forest new.forest node a
   pub store : new.store ≡ old.store
-  pub read : new.reads.pending ≡ old.reads.pending ++ pairs_of node (tags_read old.store a)
+  pub read : NotesPairs old.listed old.reads new.reads node (tags_read old.store a)
   pub settled : SettledStay old.reads new.reads
+  pub listed : new.listed ≡ old.listed
   pub renewed : new.work.renewed.items ≡ old.work.renewed.items ++ node ∷ []
   pub born : new.work.born ≡ old.work.born + (if is_born then 1 else 0)
   pub faults : new.work.faults.items ≡ old.work.faults.items
@@ -52,6 +55,7 @@ pub record AddsNoAnswer (old new : StepParts) : Type 0 where
   pub forest : new.forest ≡ old.forest
   pub store : new.store ≡ old.store
   pub reads : new.reads ≡ old.reads
+  pub listed : new.listed ≡ old.listed
   pub renewed : new.work.renewed.items ≡ old.work.renewed.items
   pub born : new.work.born ≡ old.work.born
 
@@ -81,21 +85,22 @@ module _ {L : Type 0} where
     pub store : ReleasesNew old.store new.store r
     pub read : new.reads.pending ≡ old.reads.pending
     pub settled : SettledStay old.reads new.reads
+    pub listed : new.listed ≡ old.listed
     pub renewed : new.work.renewed.items ≡ old.work.renewed.items
     pub born : new.work.born ≡ old.work.born
     pub faults : new.work.faults.items ≡ old.work.faults.items
 
   -- both, of the parts that a call is lent
-  abbrev pub KeepsOutcomeIn : ℕ → Bool → Lent (Grove Kept) → Lent Store → Lent Relations → Lent Work
+  abbrev pub KeepsOutcomeIn : ℕ → Bool → Lent (Grove Kept) → Lent Store → Lent Readers → Lent Work
       → Result (Asked L) AskRefusal → Type 0
-  KeepsOutcomeIn node is_born forest store reads work outcome =
+  KeepsOutcomeIn node is_born forest store readers work outcome =
       KeepsOutcome node is_born
-      (parts_of forest.entry.now store.entry.now reads.entry.now work.entry.now)
-      (parts_of forest.exit.now store.exit.now reads.exit.now work.exit.now) outcome
+      (parts_of forest.entry.now store.entry.now readers.entry.now work.entry.now)
+      (parts_of forest.exit.now store.exit.now readers.exit.now work.exit.now) outcome
 
-  abbrev pub KeepsNothingIn : Lent (Grove Kept) → Lent Store → Lent Relations → Lent Work
+  abbrev pub KeepsNothingIn : Lent (Grove Kept) → Lent Store → Lent Readers → Lent Work
       → Result (Asked L) AskRefusal → Type 0
-  KeepsNothingIn forest store reads work outcome =
+  KeepsNothingIn forest store readers work outcome =
       KeepsNothing
-      (parts_of forest.entry.now store.entry.now reads.entry.now work.entry.now)
-      (parts_of forest.exit.now store.exit.now reads.exit.now work.exit.now) outcome
+      (parts_of forest.entry.now store.entry.now readers.entry.now work.entry.now)
+      (parts_of forest.exit.now store.exit.now readers.exit.now work.exit.now) outcome

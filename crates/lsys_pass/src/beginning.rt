@@ -36,7 +36,8 @@ use std::sync::ledger::Ledger;
 
 impl<L: Ledger> Pass<L> {
     /// Begins to make the levels of another system, from rest: its first level is made, and those of its nodes that are to be
-    /// asked are found. It costs the nodes of that level, and of the one that was there.
+    /// asked are found. It costs the nodes of that level, and of the one that was there. After a first derivation it isn't listed
+    /// yet who read what: then it costs the nodes of all levels too, and what their answers read.
     ///
     /// # Errors
     ///
@@ -50,6 +51,7 @@ impl<L: Ledger> Pass<L> {
         ensures refusal { IfErr result (IsLevelRefusal system self.old.limit) }
         ensures exact { RefusesFirst system self.old.limit result }
     {
+        self.list_readers(alloc, &system)?;
         self.next = Some(system);
         self.state = PassState::Failed;
         let begun = self.come_to_first(alloc);

@@ -1,19 +1,19 @@
 //! What is kept of a question.
-ghost use Rattle.std.specs.Prelude.{◌≡◌, ◌<◌, ◌++◌, ◌∷◌, [], None, Some, OnOk, OnErr, option_map, vec_len, vec_capacity};
+ghost use Rattle.std.specs.Prelude.{◌≡◌, ◌<◌, None, Some, OnOk, OnErr, option_map};
 ghost use Rattle.std.specs.Option.{unwrap_or};
 ghost use Rattle.lsys_walks.specs.Stores.{AreGone, AreLive, OtherTracesStay};
 ghost use Rattle.lsys_match.specs.Stored.{runs_of};
 ghost use Rattle.lsys_reads.specs.Relations.{SettledStay};
 ghost use Rattle.lsys_forest.specs.Groves.{now_of, IsLive};
 ghost use Rattle.lsys_reads.specs.Levels.{answer_at, tags_read};
-ghost use Rattle.lsys_pass.specs.Read.{AddsPairs};
+ghost use Rattle.lsys_pass.specs.Read.{NotesRead};
 ghost use Rattle.lsys_pass.specs.Steps.{TakesAnswerAt};
 
-use crate::read::add_reads;
+use crate::read::{Readers, note_reads};
 use lsys_forest::{Forest, NodeId};
 use lsys_level::Tag;
 use lsys_match::{Answer, AnswerStore};
-use lsys_reads::{KeptAnswer, Reads};
+use lsys_reads::KeptAnswer;
 use lsys_rules::System;
 use std::alloc::AllocError;
 use std::sync::ledger::Ledger;
@@ -59,7 +59,7 @@ pub(crate) fn answer_of<L: Ledger>(
     }
 }
 
-/// Keeps a new answer at its node. What it read is pending.
+/// Keeps a new answer at its node. What it read is pending, where it is listed who read what.
 ///
 /// # Errors
 ///
@@ -67,7 +67,7 @@ pub(crate) fn answer_of<L: Ledger>(
 pub(crate) fn keep<L: Ledger>(
     forest: &mut Forest<KeptAnswer<L>>,
     store: &mut AnswerStore,
-    reads: &mut Reads,
+    readers: &mut Readers,
     node: NodeId,
     answer: Answer<L>,
 ) -> Result<(), AllocError>
@@ -76,14 +76,15 @@ pub(crate) fn keep<L: Ledger>(
     requires live { AreLive store.old (runs_of answer) }
     ensures kept { OnOk result (TakesAnswerAt forest.old forest.new node answer) }
     ensures store { OnOk result (store.new ≡ store.old) }
-    ensures read { OnOk result (AddsPairs reads.old reads.new node (tags_read store.old answer)) }
-    ensures settled { SettledStay reads.old reads.new }
+    ensures read { OnOk result (NotesRead readers.old readers.new node (tags_read store.old answer)) }
+    ensures settled { SettledStay readers.old.reads readers.new.reads }
+    ensures listed { readers.new.is_listed ≡ readers.old.is_listed }
     ensures stays { OnErr result (forest.new ≡ forest.old) }
     ensures released { OnErr result (AreGone store.new (runs_of answer)) }
     ensures others { OnErr result (OtherTracesStay store.old store.new (runs_of answer)) }
-    ensures unread { OnErr result (reads.new.pending ≡ reads.old.pending) }
+    ensures unread { OnErr result (readers.new.reads.pending ≡ readers.old.reads.pending) }
 {
-    match add_reads(reads, Tag(node.0), answer.trace(store)) {
+    match note_reads(readers, Tag(node.0), answer.trace(store)) {
         Ok(()) => {
             forest.set_answer(node, Some(KeptAnswer { answer }));
             Ok(())
@@ -92,16 +93,5 @@ pub(crate) fn keep<L: Ledger>(
             answer.release(store);
             Err(error)
         }
-    }
-}
-
-/// Adds an item to a list that has room for it. It takes no memory.
-pub(crate) fn push_in_room<T: Drop>(list: &mut Vec<T>, item: T)
-    requires { vec_len list.old < vec_capacity list.old }
-    ensures { list.new.items ≡ list.old.items ++ item ∷ [] }
-{
-    match list.push(item) {
-        Ok(()) => {}
-        Err(_) => unreachable!(),
     }
 }

@@ -29,6 +29,7 @@ mod ending;
 mod fault;
 mod keep;
 mod level;
+mod listing;
 mod next_level;
 mod outcome;
 mod parents;

@@ -5,10 +5,11 @@ ghost use Rattle.lsys_pass.specs.Works.{HasRoom, OtherListsStay};
 ghost use Rattle.lsys_pass.specs.Steps.{IsLiveIfNew, KeepsOutcomeIn, KeepsNothingIn};
 
 use crate::keep::keep;
+use crate::read::Readers;
 use crate::work::Work;
 use lsys_forest::{Forest, NodeId};
 use lsys_match::{AnswerStore, AskRefusal, Asked};
-use lsys_reads::{KeptAnswer, Reads};
+use lsys_reads::KeptAnswer;
 use std::alloc::AllocError;
 use std::sync::ledger::Ledger;
 
@@ -20,7 +21,7 @@ use std::sync::ledger::Ledger;
 pub(crate) fn keep_outcome<L: Ledger>(
     forest: &mut Forest<KeptAnswer<L>>,
     store: &mut AnswerStore,
-    reads: &mut Reads,
+    readers: &mut Readers,
     work: &mut Work,
     node: NodeId,
     is_born: bool,
@@ -31,14 +32,14 @@ pub(crate) fn keep_outcome<L: Ledger>(
     requires live { IsLiveIfNew store.old outcome }
     requires room { HasRoom work.old }
     requires few { work.old.born ≤ length work.old.renewed.items }
-    ensures kept { OnOk result (KeepsOutcomeIn node is_born forest store reads work outcome) }
-    ensures refused { OnErr result (KeepsNothingIn forest store reads work outcome) }
+    ensures kept { OnOk result (KeepsOutcomeIn node is_born forest store readers work outcome) }
+    ensures refused { OnErr result (KeepsNothingIn forest store readers work outcome) }
     ensures others { OtherListsStay work.old work.new }
 {
     match outcome {
         Ok(Asked::Same) => Ok(()),
         Ok(Asked::New(answer)) => {
-            keep(forest, store, reads, node, answer)?;
+            keep(forest, store, readers, node, answer)?;
             work.renew(node, is_born);
             Ok(())
         }

@@ -15,7 +15,7 @@ ghost use Rattle.lsys_pass.specs.Refusals.{IsFaultOn};
 
 use crate::keep::{answer_of, drop_next, take_over, target};
 use crate::outcome::keep_outcome;
-use crate::read::settle_reads;
+use crate::read::{Readers, settle_readers};
 use crate::refusal::first_fault;
 use crate::seating::seat_all;
 use crate::sizes::Sizes;
@@ -24,7 +24,7 @@ use crate::work::Work;
 use lsys_children::{Brood, Wanted};
 use lsys_forest::{Forest, NodeId};
 use lsys_match::{AnswerStore, Steps, ask};
-use lsys_reads::{KeptAnswer, Reads, Seats};
+use lsys_reads::{KeptAnswer, Seats};
 use lsys_rewrite::{DeriveRefusal, EditCount};
 use lsys_rules::System;
 use std::alloc::{AllocError, Global};
@@ -36,7 +36,7 @@ use std::sync::ledger::Ledger;
 pub struct Pass<L: Ledger> {
     pub(crate) forest: Forest<KeptAnswer<L>>,
     pub(crate) store: AnswerStore,
-    pub(crate) reads: Reads,
+    pub(crate) readers: Readers,
     pub(crate) seats: Seats,
     pub(crate) sizes: Sizes,
     pub(crate) system: System,
@@ -64,7 +64,8 @@ impl<L: Ledger> Model for Pass<L> {
     ghost view = { λ a. record {
       forest = a.forest;
       store = a.store;
-      reads = a.reads;
+      reads = a.readers.reads;
+      listed = a.readers.is_listed;
       seats = a.seats;
       sizes = a.sizes.rest.items;
       made = a.sizes.made.items;
@@ -86,7 +87,8 @@ impl<L: Ledger> Model for Pass<L> {
     ghost invariant = { λ a. IsPass (record {
       forest = a.forest;
       store = a.store;
-      reads = a.reads;
+      reads = a.readers.reads;
+      listed = a.readers.is_listed;
       seats = a.seats;
       sizes = a.sizes.rest.items;
       made = a.sizes.made.items;
@@ -123,7 +125,7 @@ impl<L: Ledger> Pass<L> {
         Ok(Pass {
             forest,
             store: AnswerStore::new(alloc),
-            reads: Reads::new(alloc),
+            readers: Readers::new(alloc, true),
             seats,
             sizes: Sizes::new(alloc),
             system,
@@ -221,7 +223,7 @@ impl<L: Ledger> Pass<L> {
         keep_outcome(
             &mut self.forest,
             &mut self.store,
-            &mut self.reads,
+            &mut self.readers,
             &mut self.work,
             node,
             is_born,
@@ -243,7 +245,7 @@ impl<L: Ledger> Pass<L> {
         let asked = self.work.renewed.len();
         self.answers = self.answers - self.work.dropped.len() + self.work.born;
         self.forest.commit(&mut self.store);
-        settle_reads(&mut self.reads, &mut self.work);
+        settle_readers(&mut self.readers, &mut self.work);
         seat_all(&mut self.seats, &self.forest, &self.work.moved);
         self.sizes.keep();
         take_over(&mut self.next, &mut self.system);
@@ -262,7 +264,7 @@ impl<L: Ledger> Pass<L> {
         ensures runs { HasOwnRuns self.new }
     {
         self.forest.rollback(&mut self.store);
-        self.reads.retract();
+        self.readers.reads.retract();
         self.sizes.forget();
         drop_next(&mut self.next);
         Self::come_to_rest(&mut self.work, &mut self.state);

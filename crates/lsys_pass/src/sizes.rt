@@ -2,7 +2,6 @@
 ghost use Rattle.std.specs.Prelude.{◌≡◌, ◌≤◌, ◌+◌, [], length, OnOk};
 ghost use Rattle.lsys_pass.specs.Sizes.{total_of, symbols_at, opens_at, with_open, with_level};
 
-use crate::keep::push_in_room;
 use std::alloc::{AllocError, Global};
 use std::mem::swap;
 
@@ -83,13 +82,10 @@ impl Sizes {
         ensures made { OnOk result (self.new.made.items ≡ with_level self.old.made.items symbols) }
     {
         self.made.reserve(1)?;
-        push_in_room(
-            &mut self.made,
-            Size {
-                symbols,
-                is_open: false,
-            },
-        );
+        self.made.push_reserved(Size {
+            symbols,
+            is_open: false,
+        });
         Ok(())
     }
 

@@ -38,7 +38,7 @@ impl<L: Ledger> Pass<L> {
         ensures keeps { KeepsSeats self.old.seats self.new.seats }
     {
         self.work
-            .note_turned(alloc, &self.forest, &mut self.seats, &self.reads)
+            .note_turned(alloc, &self.forest, &mut self.seats, &self.readers.reads)
     }
 }
 

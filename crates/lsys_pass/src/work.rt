@@ -3,7 +3,6 @@ ghost use Rattle.std.specs.Prelude.{◌≡◌, ◌≤◌, ◌+◌, ◌++◌, ◌
 ghost use Rattle.lsys_pass.specs.Works.{HasRoom, OtherListsStay, IsCleared, faulted};
 
 use crate::fault::Faulted;
-use crate::keep::push_in_room;
 use crate::queue::Queue;
 use lsys_forest::NodeId;
 use lsys_front::Front;
@@ -68,7 +67,7 @@ impl Work {
         ensures faults { self.new.faults.items ≡ self.old.faults.items }
         ensures others { OtherListsStay self.old self.new }
     {
-        push_in_room(&mut self.renewed, Tag(node.0));
+        self.renewed.push_reserved(Tag(node.0));
         self.born += usize::from(is_born);
     }
 
@@ -80,7 +79,7 @@ impl Work {
         ensures born { self.new.born ≡ self.old.born }
         ensures others { OtherListsStay self.old self.new }
     {
-        push_in_room(&mut self.faults, Faulted { node, kind });
+        self.faults.push_reserved(Faulted { node, kind });
     }
 
     /// Forgets everything. It takes no memory.

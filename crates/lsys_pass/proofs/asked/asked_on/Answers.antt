@@ -1,4 +1,4 @@
-use Rattle.std.proofs.Common.{Some, subst}
+use Rattle.std.proofs.Common.{subst}
 use Rattle.lsys_pass.proofs.AskedLevels.{AreAskedTo, asked_begins, asked_spot, asked_on_row, asked_goes_on, asked_ends}
 use Rattle.lsys_pass.proofs.asked.asked_on.Goals as goal
 

@@ -1,4 +1,4 @@
-use Rattle.std.proofs.Common.{◌≡◌, ◌<◌, ◌≤◌, ◌^◌, ap, sym, subst, ◌∙◌, arith}
+use Rattle.std.proofs.Common.{◌≡◌, ◌≤◌, ap, sym, subst, ◌∙◌, arith}
 use Rattle.lsys_module.specs.Views.{string_of}
 use Rattle.lsys_reading.specs.Commands.{numbering_of}
 use Rattle.lsys_forest.specs.Nodes.{Nodes}

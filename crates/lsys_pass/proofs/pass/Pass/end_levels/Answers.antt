@@ -1,5 +1,5 @@
 use Rattle.std.proofs.Common.{◌-◌, arith}
-use Rattle.lsys_pass.proofs.Endings.{both_ok, complete, gone_live, bare_last, failed_still, comes_to_end}
+use Rattle.lsys_pass.proofs.EndedLevels.{both_ok, complete, gone_live, bare_last, failed_still, comes_to_end}
 use Rattle.lsys_pass.proofs.pass.Pass.end_levels.Goals as goal
 
 pub returns-then-depth-level-clause-last : goal.returns-then-depth-level-clause-last

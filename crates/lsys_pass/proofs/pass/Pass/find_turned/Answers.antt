@@ -21,6 +21,7 @@ note_turned-requires-clause-room g c =
 pub invariant_of-self : goal.invariant_of-self
 invariant_of-self g c =
     still_failed _ _ c.self.invariant (record {
+      was_failed = ap (λ (z : PassView). z.state) c.self.view_is ∙ c.requires.failed;
       failed = ap (λ (z : PassView). z.state) c.self.view_is ∙ c.requires.failed;
       stored = c.self.invariant.stored;
       few = c.self.invariant.few;
@@ -34,6 +35,7 @@ invariant_of-self g c =
         was = refl;
         store = refl;
         reads = refl;
+        listed = refl;
         renewed = ap (λ p. p.items) c.note_turned.ensures.renewed;
         born = c.note_turned.ensures.born;
         same_seats = c.note_turned.ensures.seats;

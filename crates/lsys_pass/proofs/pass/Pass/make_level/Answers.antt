@@ -1,6 +1,6 @@
 use Rattle.std.proofs.Common.{refl, ap, ◌∙◌}
 use Rattle.lsys_pass.specs.Passes.{PassView}
-use Rattle.lsys_pass.proofs.Freshness.{made_failed, need_at, lives_at, stands_at, answers_at, made_at, front_taken, level_was_there, fresh_at, goes_at}
+use Rattle.lsys_pass.proofs.MadeLevels.{made_failed, need_at, lives_at, stands_at, answers_at, made_at, front_taken, level_was_there, fresh_at, goes_at}
 use Rattle.lsys_pass.proofs.Births.{linked_keeps, linked_made}
 use Rattle.lsys_pass.proofs.pass.Pass.make_level.Goals as goal
 

@@ -47,7 +47,7 @@ keep_outcome-requires-clause-lives g c =
 pub invariant_of-self-in_err-keep_outcome : goal.invariant_of-self-in_err-keep_outcome
 invariant_of-self-in_err-keep_outcome g c =
     waits_pass _ c.in-Level.level c.self.invariant c.in-Level.is c.reserve.new.self (record { now = c.reserve.ensures.now; changes = c.reserve.ensures.changes; root = c.reserve.ensures.root }) c.reserve.ensures.others.live
-    c.keep_outcome.new.forest c.ask-outcome.new.store c.keep_outcome.new.store c.keep_outcome.new.reads c.reserve-2.new.self c.keep_outcome.new.work _ c.ask-outcome.result c.keep_outcome.new.work.pending
+    c.keep_outcome.new.forest c.ask-outcome.new.store c.keep_outcome.new.store c.keep_outcome.new.readers.reads c.keep_outcome.new.readers.is_listed c.reserve-2.new.self c.keep_outcome.new.work _ c.ask-outcome.result c.keep_outcome.new.work.pending
     (record { faults = c.reserve-2.ensures.faults; renewed = c.reserve-2.ensures.renewed; born = c.reserve-2.ensures.born; first_renewed = c.keep_outcome.ensures.others.first_renewed ∙ c.reserve-2.ensures.others.first_renewed; dropped = ap (λ d. d.items) (c.keep_outcome.ensures.others.dropped ∙ c.reserve-2.ensures.others.dropped); moved = ap (λ d. d.items) (c.keep_outcome.ensures.others.moved ∙ c.reserve-2.ensures.others.moved); front = c.keep_outcome.ensures.others.front ∙ c.reserve-2.ensures.others.front })
     (c.keep_outcome.ensures.others.pending ∙ c.reserve-2.ensures.others.pending) c.ask-outcome.ensures.store c.in_err-keep_outcome.ensures.refused
 
@@ -63,7 +63,7 @@ take-requires g c =
 pub invariant_of-self-2 : goal.invariant_of-self-2
 invariant_of-self-2 g c =
     (over_all _ c.in-Level.level c.self.invariant c.in-Level.is c.args.node (subst (λ (v : PassView). In c.args.node v.pending) (sym c.self.view_is) c.requires.pending) c.reserve.new.self (record { now = c.reserve.ensures.now; changes = c.reserve.ensures.changes; root = c.reserve.ensures.root }) c.reserve.ensures.others.live
-    c.ask-outcome.new.store c.keep_outcome.new.forest c.keep_outcome.new.store c.keep_outcome.new.reads c.reserve-2.new.self c.keep_outcome.new.work
+    c.ask-outcome.new.store c.keep_outcome.new.forest c.keep_outcome.new.store c.keep_outcome.new.readers.reads c.keep_outcome.new.readers.is_listed c.reserve-2.new.self c.keep_outcome.new.work
     (record { faults = c.reserve-2.ensures.faults; renewed = c.reserve-2.ensures.renewed; born = c.reserve-2.ensures.born; first_renewed = c.keep_outcome.ensures.others.first_renewed ∙ c.reserve-2.ensures.others.first_renewed; dropped = ap (λ d. d.items) (c.keep_outcome.ensures.others.dropped ∙ c.reserve-2.ensures.others.dropped); moved = ap (λ d. d.items) (c.keep_outcome.ensures.others.moved ∙ c.reserve-2.ensures.others.moved); front = c.keep_outcome.ensures.others.front ∙ c.reserve-2.ensures.others.front })
     c.is_none-is_born.result (born_is _ c.answer_of-old.result _ _ _ _ c.is_none-is_born.ensures c.answer_of-old.ensures c.reserve.ensures.now) c.take.new.self _ c.ask-outcome.result
     (replied _ c.in-Level.level c.self.invariant c.in-Level.is c.args.node (subst (λ (v : PassView). In c.args.node v.pending) (sym c.self.view_is) c.requires.pending) c.reserve.new.self (record { now = c.reserve.ensures.now; changes = c.reserve.ensures.changes; root = c.reserve.ensures.root }) _ c.ask-outcome.new.store _ c.ask-outcome.result c.target-system.ensures c.answer_of-old.ensures c.ask-outcome.ensures.answered c.ask-outcome.ensures.store)
@@ -74,7 +74,7 @@ pub returns-clause-steps : goal.returns-clause-steps
 returns-clause-steps g c =
     steps_at _ _ _ c.args.node c.self.view_is
     (over_all _ c.in-Level.level c.self.invariant c.in-Level.is c.args.node (subst (λ (v : PassView). In c.args.node v.pending) (sym c.self.view_is) c.requires.pending) c.reserve.new.self (record { now = c.reserve.ensures.now; changes = c.reserve.ensures.changes; root = c.reserve.ensures.root }) c.reserve.ensures.others.live
-    c.ask-outcome.new.store c.keep_outcome.new.forest c.keep_outcome.new.store c.keep_outcome.new.reads c.reserve-2.new.self c.keep_outcome.new.work
+    c.ask-outcome.new.store c.keep_outcome.new.forest c.keep_outcome.new.store c.keep_outcome.new.readers.reads c.keep_outcome.new.readers.is_listed c.reserve-2.new.self c.keep_outcome.new.work
     (record { faults = c.reserve-2.ensures.faults; renewed = c.reserve-2.ensures.renewed; born = c.reserve-2.ensures.born; first_renewed = c.keep_outcome.ensures.others.first_renewed ∙ c.reserve-2.ensures.others.first_renewed; dropped = ap (λ d. d.items) (c.keep_outcome.ensures.others.dropped ∙ c.reserve-2.ensures.others.dropped); moved = ap (λ d. d.items) (c.keep_outcome.ensures.others.moved ∙ c.reserve-2.ensures.others.moved); front = c.keep_outcome.ensures.others.front ∙ c.reserve-2.ensures.others.front })
     c.is_none-is_born.result (born_is _ c.answer_of-old.result _ _ _ _ c.is_none-is_born.ensures c.answer_of-old.ensures c.reserve.ensures.now) c.take.new.self _ c.ask-outcome.result
     (replied _ c.in-Level.level c.self.invariant c.in-Level.is c.args.node (subst (λ (v : PassView). In c.args.node v.pending) (sym c.self.view_is) c.requires.pending) c.reserve.new.self (record { now = c.reserve.ensures.now; changes = c.reserve.ensures.changes; root = c.reserve.ensures.root }) _ c.ask-outcome.new.store _ c.ask-outcome.result c.target-system.ensures c.answer_of-old.ensures c.ask-outcome.ensures.answered c.ask-outcome.ensures.store)

@@ -1,4 +1,4 @@
-use Rattle.std.proofs.Common.{◌≡◌, ◌-◌, ◌+◌, ◌<◌, Err, sym, subst, ap, ◌∙◌, arith}
+use Rattle.std.proofs.Common.{◌≡◌, ◌-◌, ◌+◌, ◌<◌, Err, sym, subst, ap, arith}
 use Rattle.lsys_spec.specs.Meaning.{OverLimit, meaning_to}
 use Rattle.lsys_pass.specs.Sizes.{total_of}
 use Rattle.lsys_pass.specs.Passes.{PassView}

@@ -1,10 +1,10 @@
-use Rattle.std.proofs.Common.{◌≡◌, ◌<◌, ◌+◌, ℕ, Bool, List, length, drop, ap, ◌∙◌, sym, subst, arith}
+use Rattle.std.proofs.Common.{◌≡◌, ◌<◌, ◌+◌, ℕ, Bool, List, length, drop, ap, ◌∙◌, sym, subst}
 use Rattle.std.specs.List.{remove}
 use Rattle.std.specs.Vec.{with_items}
 use Rattle.std.proofs.lemmas.List.{with_items_is}
 use Rattle.lsys_pass.specs.declared.queue.Slot.{Slot}
-use Rattle.lsys_pass.specs.Queues.{AreCounted, those_left, those_in, IsQueue}
-use Rattle.lsys_pass.proofs.Queued.{first_off, first_gone, any_off, any_gone}
+use Rattle.lsys_pass.specs.Queues.{AreCounted, those_left, those_in}
+use Rattle.lsys_pass.proofs.Queued.{first_gone, any_gone}
 use Rattle.lsys_pass.proofs.queue.Queue.take.Goals as goal
 
 pub returns-then-place-eq0 : goal.returns-then-place-eq0
