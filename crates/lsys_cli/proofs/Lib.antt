@@ -21,3 +21,4 @@ pub mod Telling
 pub mod CountTexts
 pub mod Growing
 pub mod Motioned
+pub mod Keyed

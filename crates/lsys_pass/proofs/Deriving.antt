@@ -10,8 +10,9 @@ use Rattle.lsys_spec.specs.Systems.{System}
 use Rattle.lsys_spec.specs.Levels.{LevelSymbol, lineage, plain}
 use Rattle.lsys_laws.proofs.UpTo.{level_count}
 use Rattle.lsys_level.specs.Spots.{Seen, Push, Pop, Module, Spotted, with_lineage, named, level_by, spots_at, spotted_at}
+use Rattle.lsys_level.specs.Tags.{HasOwnTags}
 use Rattle.lsys_match.specs.Kept.{Kept}
-use Rattle.lsys_match.specs.Derivations.{StandsFor, IsDerived, symbol_at}
+use Rattle.lsys_match.specs.Derivations.{symbol_at}
 use Rattle.lsys_walks.specs.Stores.{Store}
 use Rattle.lsys_reads.specs.Relations.{Relations}
 use Rattle.lsys_spec.specs.Rows.{In}
@@ -29,7 +30,7 @@ use Rattle.lsys_pass.specs.declared.state.PassState.TheVariants.{Rest}
 use Rattle.lsys_pass.specs.Rests.{IsResting}
 use Rattle.lsys_pass.specs.Sizes.{symbols_at, total_of, HaveSizes}
 use Rattle.lsys_pass.specs.Passes.{PassView, stage_of, now_in, rest_in, IsStill, HoldsAt, IsPass}
-use Rattle.lsys_pass.specs.Views.{pass_levels, view_of, IsQuiet, KeepsLevelsAlone, AnswersItsQuestions, KeepsNoOtherAnswer}
+use Rattle.lsys_pass.specs.Views.{pass_levels, IsQuiet, KeepsLevelsAlone, AnswersItsQuestions, KeepsNoOtherAnswer}
 use Rattle.lsys_pass.proofs.Backing.{rests_at}
 use Rattle.lsys_pass.proofs.Before.{no_more, reached_on}
 use Rattle.lsys_pass.proofs.Limits.{within}
@@ -121,7 +122,7 @@ module _ (v : PassView) (h : IsPass v) (q : IsQuiet v) where
   xs = levels_meant v.system v.limit
 
   sight : Shows v.forest (v.system.depth + 1) (pass_levels v)
-  sight = shows v (view_of v) v.forest h refl refl
+  sight = shows v (v.system.depth + 1) v.forest h refl
 
   levels_many : length xs ≡ v.system.depth + 1
   levels_many = many v.system v.limit (now_in v) v.forest.root v.store v.reads v.seats r
@@ -134,6 +135,12 @@ module _ (v : PassView) (h : IsPass v) (q : IsQuiet v) where
 
   pub count : length (pass_levels v) ≡ v.system.depth + 1
   count = let c = complete in length-take-le (v.system.depth + 1) (complete_levels v.forest) (omega (arith, c))
+
+  pub count_meant : length (pass_levels v) ≡ length xs
+  count_meant = count ∙ sym levels_many
+
+  pub own_at : HasOwnTags (pass_levels v)
+  own_at = own v.forest (v.system.depth + 1) (pass_levels v) sight
 
   -- each level is that of the nodes
   told_at : (t : ℕ) → t < v.system.depth + 1 → spots_at (pass_levels v) t ≡ level_spots (now_in v) v.forest.root t
@@ -176,24 +183,14 @@ module _ (v : PassView) (h : IsPass v) (q : IsQuiet v) where
       lineage_at (names (now_in v)) (now_in v) (level_nodes (now_in v) v.forest.root t) p a.tag s n.there
       (ap (λ (y : List LevelSymbol). slice_get y p) (r.levels.each t (let c = levels_many in let l = n.within in omega (arith, c, l))) ∙ f)
 
-  pub keys_are : (t p : ℕ) (a : Spotted) (s : LevelSymbol) → spotted_at (pass_levels v) t p ≡ Some a → symbol_at xs t p ≡ Some s → a.key ≡ key_of v.system.seed (lineage s)
-  keys_are t p a s e f =
+  pub key_there : (t p : ℕ) (a : Spotted) → spotted_at (pass_levels v) t p ≡ Some a
+      → a.key ≡ key_of v.system.seed (names (now_in v) a.tag)
+  key_there t p a e =
       let n = node_of t p a e in
-      r.levels.keys t p a (let c = levels_many in let l = n.within in omega (arith, c, l)) (ap (λ (x : List Spotted). slice_get x p) (sym (told_at t n.within)) ∙ e)
-      ∙ ap (key_of v.system.seed) (sym (lineage_is t p a s e f))
+      r.levels.keys t p a (let c = levels_many in let l = n.within in omega (arith, c, l))
+      (ap (λ (x : List Spotted). slice_get x p) (sym (told_at t n.within)) ∙ e)
 
-  -- 5. the derivation
-
-  pub stands_for : StandsFor v.system.seed xs (pass_levels v)
-  stands_for = record {
-    depth = count ∙ sym levels_many;
-    strings = record { string = strings_are };
-    tags = own v.forest (v.system.depth + 1) (pass_levels v) sight;
-    keys = keys_are;
-  }
-
-  pub derived : IsDerived v.system v.limit (pass_levels v)
-  derived = record { meant = xs; is = r.is; view = stands_for }
+  -- 5. all of them
 
   -- after the last level there are no nodes
   pub none_behind : (t : ℕ) → v.system.depth + 1 ≤ t → level_nodes (now_in v) v.forest.root t ≡ []

@@ -34,7 +34,11 @@ pub mod Closedness
 pub mod SizesTold
 pub mod Repairing
 pub mod Viewing
+pub mod Keyed
 pub mod Deriving
+pub mod Posing
+pub mod Climbing
+pub mod Weights
 pub mod Spending
 pub mod Visiting
 pub mod Editing

@@ -1,4 +1,4 @@
--- The levels of a derivation are those of its forest.
+-- The first levels of a forest, and where their symbols stand.
 use Rattle.std.proofs.Common.{◌≡◌, ◌+◌, ◌<◌, ℕ, zero, suc, Bool, true, false, List, [], ◌∷◌, length, take, cond, slice_get, Option, Some, None, refl, sym, ap, ◌∙◌, subst, arith}
 use Rattle.std.specs.Prelude.{nat_lt, option_map, MatchOption}
 use Rattle.std.proofs.lemmas.Bool.Decides.{nat_tests}
@@ -15,11 +15,11 @@ use Rattle.lsys_forest.proofs.SoundLemmas.{AreSound-now}
 use Rattle.lsys_forest.proofs.ViewLemmas.{node_at, spot_of, told_is, spotted_is, own_tags}
 use Rattle.lsys_reads.proofs.LevelLemmas.{get_index, index_less}
 use Rattle.lsys_pass.specs.Passes.{PassView, now_in, IsPass}
-use Rattle.lsys_pass.specs.Views.{ForestView, tags_on, tag_place, level_in, place_among, view_of}
+use Rattle.lsys_pass.specs.Views.{tags_on, tag_place, level_in, place_among}
 
 -- 1. a tag, and where it stands
 
-found : (tag : ℕ) (xs : List Spotted) → tag_place tag xs < length xs → (a : Spotted) × (slice_get xs (tag_place tag xs) ≡ Some a) × (a.tag ≡ tag)
+pub found : (tag : ℕ) (xs : List Spotted) → tag_place tag xs < length xs → (a : Spotted) × (slice_get xs (tag_place tag xs) ≡ Some a) × (a.tag ≡ tag)
 found tag xs h =
     let long = length-map xs (λ (x : Spotted). x.tag) in
     by (slice_get xs (tag_place tag xs)) refl (sym (slice_get-map (λ (x : Spotted). x.tag) xs (tag_place tag xs)) ∙ get_index tag (tags_on xs) (omega (arith, h, long)))
@@ -79,10 +79,12 @@ pub record Shows (f : Grove Kept) (n : ℕ) (levels : List (List Spotted)) : Typ
   pub sound : IsRooted f.root (changes_in f) (now_of f)
   pub are : levels ≡ take n (complete_levels f)
 
-pub shows : (v : PassView) (w : ForestView) (f : Grove Kept) → IsPass v → view_of v ≡ w → f ≡ v.forest → Shows f (v.system.depth + 1) w.levels
-shows v w f h e same = record {
-  sound = subst (λ (g : Grove Kept). IsRooted g.root (changes_in g) (now_of g)) (sym same) (AreSound-now v.forest.root (changes_in v.forest) (now_in v) h.stored.sound);
-  are = ap (λ (w : ForestView). w.levels) (sym e) ∙ ap (λ (g : Grove Kept). take (v.system.depth + 1) (complete_levels g)) (sym same);
+pub shows : (v : PassView) (n : ℕ) (f : Grove Kept) → IsPass v → f ≡ v.forest → Shows f n (take n (complete_levels f))
+shows v n f h same = record {
+  sound =
+      subst (λ (g : Grove Kept). IsRooted g.root (changes_in g) (now_of g)) (sym same)
+      (AreSound-now v.forest.root (changes_in v.forest) (now_in v) h.stored.sound);
+  are = refl;
 }
 
 module _ (f : Grove Kept) (n : ℕ) (levels : List (List Spotted)) (h : Shows f n levels) where

@@ -1,15 +1,18 @@
 -- What a contract sees of a derivation whose levels stand in a forest.
 use Rattle.std.specs.Prelude.{◌≡◌, ◌<◌, ◌≤◌, ◌+◌, ◌^◌, ◌⊎◌, ℕ, zero, suc, List, [], ◌∷◌, ◌++◌, Option, Some, None, length, map, take, cond, nat_lt, Ok, slice_get}
 use Rattle.lsys_spec.specs.Rows.{In}
+use Rattle.lsys_spec.specs.Draws.{key_of}
 use Rattle.lsys_spec.specs.Systems.{System}
 use Rattle.lsys_spec.specs.Levels.{LevelSymbol}
 use Rattle.lsys_spec.specs.Meaning.{meaning}
 use Rattle.lsys_spec.specs.Questions.{questions}
+use Rattle.lsys_laws.specs.Seeds.{HasNoWeights, reseeded}
 use Rattle.lsys_level.specs.Spots.{Spotted, spots_at}
 use Rattle.lsys_match.specs.Kept.{Kept}
 use Rattle.lsys_forest.specs.Nodes.{Node, Nodes}
-use Rattle.lsys_forest.specs.Groves.{IsLive}
+use Rattle.lsys_forest.specs.Groves.{Grove, now_of, IsLive}
 use Rattle.lsys_forest.specs.Rows.{index_in, level_nodes, complete_levels}
+use Rattle.lsys_reads.specs.Lineages.{names}
 use Rattle.lsys_reads.specs.Levels.{AnsweredAt, answer_at}
 use Rattle.lsys_pass.specs.declared.state.PassState.TheVariants.{Rest}
 use Rattle.lsys_pass.specs.Passes.{PassView, now_in}
@@ -36,8 +39,8 @@ place_among tag levels = tag_place tag (spots_at levels (level_in tag levels))
 
 -- 2. a derivation
 
--- the system, the limit, and the levels, of which each symbol has its node's number as its tag; and
--- the nodes of each level, with the answers that they keep
+-- the system, the limit, and the levels, of which each symbol has its node's number as its tag, and the
+-- key of its lineage by the system's seed; and the nodes of each level, with the answers that they keep
 pub record ForestView : Type 0 where
   pub system : System
   pub limit : ℕ
@@ -53,14 +56,27 @@ nodes_of_levels m root (suc t) = nodes_of_levels m root t ++ map m (level_nodes 
 abbrev pub pass_levels : PassView → List (List Spotted)
 pass_levels v = take (v.system.depth + 1) (complete_levels v.forest)
 
--- what a derivation is seen as that keeps this pass
-abbrev pub view_of : PassView → ForestView
-view_of v = record {
-  system = v.system;
+-- a symbol of these nodes, with the key of its lineage by a seed
+abbrev pub keyed_by : ℕ → Nodes Kept → Spotted → Spotted
+keyed_by seed m x = record x { key = key_of seed (names m x.tag) }
+
+-- the levels of a forest, up to the depth of this system, with the keys by its seed
+abbrev pub levels_for : System → Grove Kept → List (List Spotted)
+levels_for s f = map (map (keyed_by s.seed (now_of f))) (take (s.depth + 1) (complete_levels f))
+
+-- what a derivation of this system is seen as that keeps this pass
+abbrev pub view_of : System → PassView → ForestView
+view_of s v = record {
+  system = s;
   limit = v.limit;
-  levels = pass_levels v;
-  nodes = nodes_of_levels (now_in v) v.forest.root (v.system.depth + 1);
+  levels = levels_for s v.forest;
+  nodes = nodes_of_levels (now_in v) v.forest.root (s.depth + 1);
 }
+
+-- A pass may derive this in place of a system: the system itself or, where no rule has a weight, the
+-- system with another seed.
+abbrev pub IsPosed : System → System → Type 0
+IsPosed s posed = (posed ≡ s) ⊎ (HasNoWeights s × (posed ≡ reseeded posed.seed s))
 
 -- the pass is at rest, and its forest has a level for each of its system's
 pub record IsQuiet (v : PassView) : Type 0 where

@@ -1,12 +1,13 @@
 //! A derivation whose levels stand in a forest.
-ghost use Rattle.std.specs.Prelude.{◌≡◌, ◌+◌, Ok, length, sum_by, take};
-ghost use Rattle.lsys_forest.specs.Rows.{complete_levels};
+ghost use Rattle.std.specs.Prelude.{◌≡◌, ◌+◌, length, sum_by};
 ghost use Rattle.lsys_forest.specs.Groves.{IsAtRest};
 ghost use Rattle.lsys_pass.specs.declared.state.PassState.TheVariants.{Rest};
 ghost use Rattle.lsys_pass.specs.Passes.{HasOwnRuns};
-ghost use Rattle.lsys_pass.specs.Views.{level_in, place_among, view_of, CountsAnswered, KeepsLevelsAlone, AnswersItsQuestions, KeepsNoOtherAnswer};
+ghost use Rattle.lsys_pass.specs.Views.{level_in, place_among, levels_for, view_of, IsPosed, CountsAnswered, KeepsLevelsAlone, AnswersItsQuestions, KeepsNoOtherAnswer};
 
+use crate::key::key_by_seed;
 use crate::pass::Pass;
+use crate::posed::posed_for;
 use crate::state::PassState;
 use lsys_forest::{Forest, NodeId};
 use lsys_level::{LevelView, Sight, Tag};
@@ -19,9 +20,12 @@ use std::marker::Model;
 use std::sync::ledger::Ledger;
 
 /// A system with its levels, which stand in a forest, and the answers to all their questions. An edit repairs the levels in
-/// place, and touches only what comes, goes or changes, or may have another answer.
+/// place, and touches only what comes, goes or changes, or may have another answer. Where no rule has a weight, no key is made for
+/// another seed before it is asked for.
 #[derive(Drop)]
 pub struct ForestDerivation<L: Ledger> {
+    system: System,
+    /// It derives the system or, where no rule of it has a weight, the system with another seed.
     pass: Pass<L>,
 }
 
@@ -29,15 +33,15 @@ impl<L: Ledger> Model for ForestDerivation<L> {
     ghost use Rattle.std.specs.Coded.{codes};
     ghost use Rattle.lsys_expr.specs.Codes.{expression_code};
     ghost use Rattle.lsys_rules.specs.Codes.{expr_code};
-    ghost use Rattle.lsys_pass.specs.Views.{ForestView, view_of, IsQuiet};
+    ghost use Rattle.lsys_pass.specs.Views.{ForestView, view_of, IsPosed, IsQuiet};
 
     ghost Value = { ForestView };
 
     ghost coded = { Prim.hlevel (codes, expression_code, expr_code) };
 
-    ghost view = { λ a. view_of a.pass };
+    ghost view = { λ a. view_of a.system a.pass };
 
-    ghost invariant = { λ a. IsQuiet a.pass };
+    ghost invariant = { λ a. IsQuiet a.pass × IsPosed a.system a.pass.system };
 }
 
 /// How much a derivation keeps.
@@ -54,9 +58,13 @@ impl<L: Ledger> ForestDerivation<L> {
     /// and nothing else: the nodes of the levels and the root, an answer to each of their questions, and the runs that these
     /// answers hold. In which runs the nodes' own lists stand, its forest tells ([`Forest::regions`]). It costs no step.
     ///
+    /// Its system is the derivation's or, where no rule has a weight, the derivation's with another seed: by that its nodes have
+    /// their keys.
+    ///
     /// [`Forest::regions`]: lsys_forest::Forest::regions
     pub fn pass(&self) -> &Pass<L>
-        ensures view { view_of result.now ≡ self.now }
+        ensures view { view_of self.now.system result.now ≡ self.now }
+        ensures posed { IsPosed self.now.system result.now.system }
         ensures rest { (result.now.state ≡ Rest) × IsAtRest result.now.forest }
         ensures nodes { KeepsLevelsAlone result.now }
         ensures answers { AnswersItsQuestions result.now }
@@ -67,9 +75,10 @@ impl<L: Ledger> ForestDerivation<L> {
         &self.pass
     }
 
-    /// The forest in which the levels stand: its levels, up to the system's depth. It costs no step.
+    /// The forest in which the levels stand: its levels, up to the system's depth, but for the keys, which may be by another seed
+    /// where no rule has a weight. It costs no step.
     pub fn forest(&self) -> &Forest<KeptAnswer<L>>
-        ensures { take (self.now.system.depth + 1) (complete_levels result.now) ≡ self.now.levels }
+        ensures { levels_for self.now.system result.now ≡ self.now.levels }
     {
         self.pass.forest()
     }
@@ -122,7 +131,13 @@ impl<L: Ledger> LevelView for ForestDerivation<L> {
     }
 
     fn key(&self, spot: NodeId) -> u64 {
-        self.pass.forest().key(spot)
+        let seed = self.system.seed();
+        let forest = self.pass.forest();
+        if self.pass.system().seed() == seed {
+            forest.key(spot)
+        } else {
+            key_by_seed(forest, spot, seed)
+        }
     }
 }
 
@@ -136,13 +151,16 @@ impl<L: Ledger> Derivation<L> for ForestDerivation<L> {
     ghost visits = { candidate_visits };
 
     fn start(alloc: Global, limit: u32) -> Result<ForestDerivation<L>, AllocError> {
+        let pass = Pass::new(alloc, limit)?;
         Ok(ForestDerivation {
-            pass: Pass::new(alloc, limit)?,
+            system: pass.system().clone()?,
+            pass,
         })
     }
 
     fn system(&self) -> &System {
-        self.pass.system()
+        prove!(matches!(self.pass.state(), PassState::Rest));
+        &self.system
     }
 
     fn total(&self) -> u64 {
@@ -156,9 +174,10 @@ impl<L: Ledger> Derivation<L> for ForestDerivation<L> {
         asked: &mut Steps<L>,
         visited: &mut Steps<V>,
     ) -> Result<EditCount, DeriveRefusal> {
+        let posed = posed_for(&system, self.pass.system().seed())?;
+        let count = self.pass.edit(alloc, posed, asked, visited)?;
         prove!(matches!(self.pass.state(), PassState::Rest));
-        let result = self.pass.edit(alloc, system, asked, visited);
-        prove!(matches!(self.pass.state(), PassState::Rest));
-        result
+        self.system = system;
+        Ok(count)
     }
 }
