@@ -76,7 +76,7 @@ ROWS = [
     Row("a rule that nests", nesting, 60),
     Row("a row under many levels", deep_row, 60),
     Row("contexts past nested branches", contexts, 150),
-    Row("contexts past a row of branches", branches, 150, "step past a branch", 800),
+    Row("contexts past a row of branches", branches, 150, "step past a branch", 320),
     Row("rules put one by one", rules, 125, "rule", 300_000),
 ]
 
