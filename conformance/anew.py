@@ -16,6 +16,7 @@ MOST_OF_ANEW = 1.2
 LARGE = "more is let go than is left, or several times as much: letting go a node costs a third of making one, or more"
 ALL = "each node has another number, so all are made anew beside those that are let go"
 OTHER = "old nodes get other symbols or other children, which are matched with those that they had: to make one costs less"
+FIRST = ALL + "; and as the first edit after a derivation it lists who read what, which that left out"
 KEYS = "each node gets another key and is asked again, and what it becomes is matched with what it was: to make one costs less"
 
 
@@ -35,9 +36,10 @@ DEARER = {
     ("plant", "axiom: a symbol in front, by places"): Dear(1.9, ALL),
     ("row by names", "lineage by places"): Dear(1.8, ALL),
     ("row", "lineage by names"): Dear(1.8, ALL),
-    ("row", "axiom: a symbol in front, by places"): Dear(1.5, ALL),
-    ("left context", "axiom: a symbol in front, by places"): Dear(1.4, ALL),
-    ("row", "axiom: all others"): Dear(1.4, OTHER),
+    ("row", "axiom: a symbol in front, by places"): Dear(1.6, ALL),
+    ("left context", "axiom: a symbol in front, by places"): Dear(1.9, FIRST),
+    ("parameters and weights", "axiom: a module in front, by places"): Dear(1.3, ALL),
+    ("row", "axiom: all others"): Dear(1.5, OTHER),
     ("row", "a production of half of all symbols"): Dear(1.4, OTHER),
     ("parameters and weights", "a production of all of a letter"): Dear(1.4, OTHER),
     ("parameters and weights", "seed, with weights"): Dear(1.4, KEYS),
