@@ -34,16 +34,11 @@ OWN_WORD = "a plain word that each of these crates has for a thing of its own"
 FEW_USES = "a fact that one clause names, or a step of one proof; the figure may fall and not rise"
 
 KNOWN: tuple[Known, ...] = (
-    Known("twice in src", "crates", "Changes", 2, OWN_WORD),
     Known("twice in src", "crates", "Desk", 2, OWN_WORD),
     Known("twice in src", "crates", "Frame", 5, OWN_WORD),
-    Known("twice in src", "crates", "Kept", 2, OWN_WORD),
-    Known("twice in src", "crates", "Mark", 3, OWN_WORD),
-    Known("twice in src", "crates", "Row", 3, OWN_WORD),
     Known("twice in src", "crates", "Spot", 7, OWN_WORD),
     Known("twice in src", "crates", "Steps", 2, OWN_WORD),
     Known("twice in src", "crates", "Store", 3, OWN_WORD),
-    Known("twice in src", "crates", "Way", 3, OWN_WORD),
     Known("once", "crates/lsys_syntax/specs", "lsys_syntax", 31, FEW_USES),
     Known("once", "crates/lsys_spec/specs", "lsys_spec", 65, FEW_USES),
     Known("once", "crates/lsys_laws/specs", "lsys_laws", 87, FEW_USES),

@@ -26,7 +26,7 @@ pub(crate) fn formal_place(formals: &[Name], name: Name) -> u8
     requires known { is_formal (names_of formals.now) (name_of name) ≡ true }
     ensures { result ≡ formal_place (names_of formals.now) (name_of name) }
 {
-    match formals.iter().position(|formal| same_name(*formal, name)) {
+    match formals.iter().position(|formal| same_text(*formal, name)) {
         Some(place) => place as u8,
         None => unreachable!(),
     }
@@ -45,10 +45,10 @@ fn is_unknown(kind: TokenKind, formals: &[Name]) -> bool
 pub fn is_formal(formals: &[Name], name: Name) -> bool
     ensures { result ≡ is_formal (names_of formals.now) (name_of name) }
 {
-    formals.iter().any(|formal| same_name(*formal, name))
+    formals.iter().any(|formal| same_text(*formal, name))
 }
 
-fn same_name(one: Name, other: Name) -> bool
+fn same_text(one: Name, other: Name) -> bool
     ensures { result ≡ bytes_eq (name_text (name_of one)) (name_text (name_of other)) }
 {
     one == other

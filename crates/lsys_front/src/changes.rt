@@ -13,14 +13,14 @@ use std::marker::Model;
 /// How a level changed: which nodes came, which are gone, which of those that stayed have another symbol, and which were
 /// looked at since they may have other neighbours, or another mate.
 #[derive(Drop)]
-pub struct Changes {
+pub struct LevelChanges {
     pub came: Vec<NodeId>,
     pub gone: Vec<NodeId>,
     pub changed: Vec<NodeId>,
     pub looked: Vec<NodeId>,
 }
 
-impl Model for Changes {
+impl Model for LevelChanges {
     ghost use Rattle.lsys_front.specs.Found.{LevelChanges};
 
     ghost Value = { LevelChanges };
@@ -48,7 +48,7 @@ pub(crate) fn find_nodes<A: Kept>(
     forest: &Forest<A>,
     seats: &mut Seats,
     reads: &Reads,
-    changes: &Changes,
+    changes: &LevelChanges,
     turned: &mut Vec<NodeId>,
     beside: &mut Vec<NodeId>,
     readers: &mut Vec<NodeId>,
@@ -77,7 +77,7 @@ pub(crate) fn find_nodes<A: Kept>(
 }
 
 /// Whether no node can be found: none was looked at, none has another symbol, and none is gone.
-fn find_none(changes: &Changes) -> bool
+fn find_none(changes: &LevelChanges) -> bool
     ensures looked { IsTrue result → changes.now.looked ≡ [] }
     ensures changed { IsTrue result → changes.now.changed ≡ [] }
     ensures gone { IsTrue result → changes.now.gone ≡ [] }
@@ -90,7 +90,7 @@ fn find_marked<A: Kept>(
     forest: &Forest<A>,
     seats: &mut Seats,
     reads: &Reads,
-    changes: &Changes,
+    changes: &LevelChanges,
     turned: &mut Vec<NodeId>,
     beside: &mut Vec<NodeId>,
     readers: &mut Vec<NodeId>,

@@ -4,9 +4,9 @@ ghost use Rattle.lsys_forest.specs.Groves.{AreSound, now_of, changes_in};
 ghost use Rattle.lsys_front.specs.Fronts.{IsToldFirst};
 ghost use Rattle.lsys_front.specs.LooksFrom.{first_nodes};
 
-use crate::changes::Changes;
+use crate::changes::LevelChanges;
 use crate::front::Front;
-use lsys_children::Changes as Told;
+use lsys_children::Changes;
 use lsys_forest::{Forest, Kept};
 use std::alloc::{AllocError, Global};
 
@@ -20,7 +20,7 @@ impl Front {
     pub fn first<A: Kept>(
         alloc: Global,
         forest: &Forest<A>,
-        told: &Told,
+        told: &Changes,
     ) -> Result<Front, AllocError>
         ensures told { IfOk result (λ front. IsToldFirst told.now front.changes) }
         ensures looked { IfOk result (λ front. front.changes.looked ≡ first_nodes forest.now) }
@@ -30,7 +30,7 @@ impl Front {
     {
         let root = forest.root();
         Ok(Front {
-            changes: Changes {
+            changes: LevelChanges {
                 came: Vec::from_slice(alloc, told.added())?,
                 gone: Vec::from_slice(alloc, told.gone())?,
                 changed: Vec::from_slice(alloc, told.changed())?,

@@ -2,7 +2,7 @@
 ghost use Rattle.std.specs.Prelude.{◌≡◌};
 ghost use Rattle.lsys_front.specs.Fronts.{no_differences};
 
-use crate::changes::Changes;
+use crate::changes::LevelChanges;
 use lsys_forest::NodeId;
 use std::alloc::Global;
 use std::marker::Model;
@@ -10,7 +10,7 @@ use std::marker::Model;
 /// What differs on a level from that of the last rest.
 #[derive(Drop)]
 pub struct Front {
-    pub changes: Changes,
+    pub changes: LevelChanges,
     pub turned: Vec<NodeId>,
     pub bare: Vec<NodeId>,
 }
@@ -33,7 +33,7 @@ impl Front {
         ensures { result ≡ no_differences }
     {
         Front {
-            changes: Changes {
+            changes: LevelChanges {
                 came: Vec::new(alloc),
                 gone: Vec::new(alloc),
                 changed: Vec::new(alloc),

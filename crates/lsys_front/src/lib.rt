@@ -32,7 +32,7 @@ mod turn;
 
 pub use asks::Found;
 pub use candidates::law_of_candidates;
-pub use changes::Changes;
+pub use changes::LevelChanges;
 pub use ends::{add_answered, add_children, drop_below, end_level};
 pub use front::Front;
 pub use lost::law_of_forests;

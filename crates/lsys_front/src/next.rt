@@ -5,7 +5,7 @@ ghost use Rattle.lsys_forest.specs.Groves.{IsLive};
 ghost use Rattle.lsys_front.specs.Fronts.{IsToldNext, StandOn, no_differences};
 ghost use Rattle.lsys_front.specs.LooksFrom.{moved_in, LooksIfThere, LooksOnlyBelow};
 
-use crate::changes::Changes as LevelChanges;
+use crate::changes::LevelChanges;
 use crate::ends::add_children;
 use crate::front::Front;
 use lsys_children::Changes;

@@ -16,7 +16,7 @@ ghost use Rattle.lsys_motion.specs.Surveys.{AreBoundsOf, with_place, with_ends};
 
 use lsys_lattice::{Extents, Lattice, Place, Vector};
 use lsys_level::LevelView;
-use lsys_out::{PictureRefusal, Way};
+use lsys_out::{PictureRefusal, TurtleWay};
 use lsys_rules::System;
 use lsys_turtle::{Segment, Turtle};
 
@@ -112,7 +112,7 @@ pub(crate) fn survey_picture<T: Lattice, W: LevelView>(
     requires room { image_nesting system.now (W.levels view.now) ≤ turtle.old.room }
     ensures { AreBoundsOf T.shape (last_drawing T.shape system.now (W.levels view.now)) result }
 {
-    let mut way = Way::new(view, system, turtle);
+    let mut way = TurtleWay::new(view, system, turtle);
     let mut extents = of_origin::<T>();
     'segments: while let Some(segment) = way.next(turtle)? {
         extents = with_segment::<T>(extents, &segment);

@@ -19,4 +19,4 @@ pub use numbers::{put_unsigned, put_wide};
 pub use refusal::PictureRefusal;
 pub use segments::{put_place, segments_text};
 pub use svg::svg_text;
-pub use way::Way;
+pub use way::TurtleWay;

@@ -8,7 +8,7 @@ ghost use Rattle.lsys_out.specs.Nesting.{HasLast, image_nesting};
 
 use crate::extent::Extent;
 use crate::refusal::PictureRefusal;
-use crate::way::Way;
+use crate::way::TurtleWay;
 use lsys_lattice::Lattice;
 use lsys_level::LevelView;
 use lsys_rules::System;
@@ -50,7 +50,7 @@ pub(crate) fn survey_picture<T: Lattice, W: LevelView>(
     ensures surveyed { IsSurveyed T.shape (last_drawing T.shape system.now (W.levels view.now)) result }
     ensures room { turtle.new.room ≡ turtle.old.room }
 {
-    let mut way = Way::new(view, system, turtle);
+    let mut way = TurtleWay::new(view, system, turtle);
     let mut survey = Survey {
         count: 0,
         extent: Extent::start::<T>(),

@@ -13,7 +13,7 @@ use crate::numbers::{put_corner, put_side};
 use crate::refusal::PictureRefusal;
 use crate::survey::survey_picture;
 use crate::tail::Tail;
-use crate::way::Way;
+use crate::way::TurtleWay;
 use lsys_io::{Buffered, Failed, Sink};
 use lsys_lattice::Lattice;
 use lsys_level::LevelView;
@@ -66,7 +66,7 @@ fn put_svg<T: Lattice, W: LevelView, K: Sink>(
 {
     put_head(out, sink, &extent)?;
     let mut tail = Tail::new();
-    let mut way = Way::new(view, system, turtle);
+    let mut way = TurtleWay::new(view, system, turtle);
     'segments: loop {
         match way.next(turtle) {
             Ok(Some(segment)) => put_line::<T, K>(out, sink, &mut tail, &segment)?,

@@ -25,12 +25,12 @@ pub(crate) enum ImageStep {
 
 /// A way over an image. Contracts see what is still to come of the image, and how many of its modules were passed.
 #[derive(Drop)]
-pub struct Way<'a, W: LevelView> {
+pub struct TurtleWay<'a, W: LevelView> {
     image: Image<'a, W>,
     modules: u32,
 }
 
-impl<'a, W: LevelView> Model for Way<'a, W> {
+impl<'a, W: LevelView> Model for TurtleWay<'a, W> {
     ghost use Rattle.std.specs.Prelude.{◌+◌, ◌≤◌, length};
     ghost use Rattle.lsys_syntax.specs.Limits.{most_image_symbols};
     ghost use Rattle.lsys_out.specs.Drawings.{Way};
@@ -42,9 +42,9 @@ impl<'a, W: LevelView> Model for Way<'a, W> {
     ghost invariant = { λ w. w.modules + length w.image.symbols ≤ most_image_symbols };
 }
 
-impl<'a, W: LevelView> Way<'a, W> {
+impl<'a, W: LevelView> TurtleWay<'a, W> {
     /// At the start of the last level's image, and the turtle at its start.
-    pub fn new<T: Lattice>(view: &'a W, system: &'a System, turtle: &mut Turtle<T>) -> Way<'a, W>
+    pub fn new<T: Lattice>(view: &'a W, system: &'a System, turtle: &mut Turtle<T>) -> TurtleWay<'a, W>
         requires last { HasLast system.now (W.levels view.now) }
         requires room { image_nesting system.now (W.levels view.now) ≤ turtle.old.room }
         ensures drawing { BeginsDrawing T.shape result turtle.new.turtle system.now (W.levels view.now) }
@@ -52,7 +52,7 @@ impl<'a, W: LevelView> Way<'a, W> {
         ensures room { turtle.new.room ≡ turtle.old.room }
     {
         turtle.reset();
-        Way {
+        TurtleWay {
             image: Image::new(view, system, system.depth()),
             modules: 0,
         }

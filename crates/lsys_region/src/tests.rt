@@ -87,7 +87,7 @@ fn place_and_replace(rt: &impl Abort, region: &mut Region<u8>) {
 
 /// A run, and the list that it should have.
 #[derive(Drop)]
-struct Kept {
+struct KeptList {
     run: Run,
     list: Vec<u8>,
 }
@@ -96,7 +96,7 @@ struct Kept {
 #[derive(Drop)]
 struct Shelf {
     region: Region<u8>,
-    kept: Vec<Kept>,
+    kept: Vec<KeptList>,
 }
 
 impl Model for Shelf {
@@ -128,7 +128,7 @@ impl Shelf {
         self.kept.reserve(1)?;
         self.region.reserve(room(list.len()))?;
         let run = self.region.place(list);
-        match self.kept.push(Kept { run, list: copy }) {
+        match self.kept.push(KeptList { run, list: copy }) {
             Ok(()) => Ok(()),
             Err(_) => unreachable!(),
         }
@@ -138,7 +138,7 @@ impl Shelf {
         requires { at < self.old }
         ensures { self.new + 1 ≡ self.old }
     {
-        let Kept { run, list: _ } = self.kept.remove(at);
+        let KeptList { run, list: _ } = self.kept.remove(at);
         self.region.free(run);
     }
 

@@ -1,6 +1,6 @@
 //! Thirty edits that are refused in one session, and what it holds after each of them.
 
-use crate::holding::{Row, TellsHeld, are_held, is_held};
+use crate::holding::{HeldRow, TellsHeld, are_held, is_held};
 use lsys_match::{Derivation, Steps};
 use lsys_session::Session;
 use std::alloc::{AllocError, Global};
@@ -9,7 +9,7 @@ use std::sync::ledger::Ledger;
 use std::test::Fail;
 
 /// The edits before, with their replies.
-fn edits_before() -> &'static [Row] {
+fn edits_before() -> &'static [HeldRow] {
     &[
         ("axiom A(9)A(9)A(9)A(9)A(9)", "ok 0/0\n", 6, 0),
         ("production p: A(x) : x > 0 => A(x-1)", "ok 0/0\n", 6, 0),
@@ -55,7 +55,7 @@ fn refused_edits() -> &'static [(&'static str, u32, u32)] {
 }
 
 /// The string is the one before the refusal, and its axiom asks nothing anew.
-fn lines_behind() -> &'static [Row] {
+fn lines_behind() -> &'static [HeldRow] {
     &[
         ("string", "A(3)A(3)A(3)A(3)A(3)\n", 36, 30),
         ("axiom A(9)A(9)A(9)A(9)A(9)", "ok 0/30\n", 36, 30),

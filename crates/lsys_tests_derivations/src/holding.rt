@@ -11,7 +11,7 @@ use std::sync::ledger::Ledger;
 use std::test::Fail;
 
 /// A line, its reply, and the numbers of nodes and of answers that are held after it.
-pub(crate) type Row = (&'static str, &'static str, u64, u64);
+pub(crate) type HeldRow = (&'static str, &'static str, u64, u64);
 
 /// A derivation that tells how much it keeps.
 pub(crate) trait TellsHeld {
@@ -56,7 +56,7 @@ pub(crate) fn are_held<L: Ledger, V: Ledger, D: Derivation<L> + Drop + TellsHeld
     rt: &impl Abort,
     alloc: Global,
     session: &mut Session<L, D>,
-    rows: &[Row],
+    rows: &[HeldRow],
     asked: &mut Steps<L>,
     visited: &mut Steps<V>,
 ) -> Result<(), Fail> {

@@ -2,7 +2,7 @@
 ghost use Rattle.std.specs.Prelude.{◌≡◌, ◌<◌};
 
 use crate::cases::are_refused;
-use crate::holding::{Row, TellsHeld, are_held, holds};
+use crate::holding::{HeldRow, TellsHeld, are_held, holds};
 use lsys_match::{Derivation, Steps};
 use lsys_pass::ForestDerivation;
 use lsys_session::Session;
@@ -13,7 +13,7 @@ use std::sync::ledger::{Blank, Ledger};
 use std::test::Fail;
 
 /// Algae and its continuation: lines, their replies, and the numbers of nodes and of answers after them.
-fn algae() -> &'static [Row] {
+fn algae() -> &'static [HeldRow] {
     &[
         ("axiom A", "ok 0/0\n", 2, 0),
         ("production a: A => AB", "ok 0/0\n", 2, 0),
@@ -27,7 +27,7 @@ fn algae() -> &'static [Row] {
 }
 
 /// A fault, which leaves nothing after.
-fn a_fault() -> &'static [Row] {
+fn a_fault() -> &'static [HeldRow] {
     &[
         ("axiom A(10)", "ok 0/0\n", 2, 0),
         ("production p: A(x) => A(x*x)", "ok 0/0\n", 2, 0),
@@ -40,7 +40,7 @@ fn a_fault() -> &'static [Row] {
 #[derive(Drop)]
 enum Tried {
     /// Lines.
-    Rows(&'static [Row]),
+    Rows(&'static [HeldRow]),
     /// Edits that are refused at each module of each level.
     Refused,
 }

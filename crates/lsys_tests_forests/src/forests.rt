@@ -19,9 +19,9 @@ use std::process::Abort;
 
 /// An answer that holds no runs.
 #[derive(Drop)]
-struct Mark(u32);
+struct Numbered(u32);
 
-impl Kept for Mark {
+impl Kept for Numbered {
     type Store = u8;
 
     ghost Name = { ℕ };
@@ -38,7 +38,7 @@ impl Kept for Mark {
 /// Adds a node with this symbol, after making room for it.
 fn grow(
     rt: &impl Abort,
-    forest: &mut Forest<Mark>,
+    forest: &mut Forest<Numbered>,
     parent: NodeId,
     count: u32,
     symbol: &Symbol,
@@ -60,7 +60,7 @@ fn grow(
 }
 
 /// Sets the children of a node, after making room for them.
-fn give(rt: &impl Abort, forest: &mut Forest<Mark>, node: NodeId, kids: &[NodeId])
+fn give(rt: &impl Abort, forest: &mut Forest<Numbered>, node: NodeId, kids: &[NodeId])
     requires lives { IsLive forest.old node }
     requires kids { AreKids (now_of forest.old) forest.old.root node kids.now }
     requires few { live_nodes forest.old < 4000 }
@@ -76,7 +76,7 @@ fn give(rt: &impl Abort, forest: &mut Forest<Mark>, node: NodeId, kids: &[NodeId
 }
 
 /// A forest of two levels: the first has these symbols, and in the second each but the first of them has itself.
-fn two_levels(rt: &impl Abort, alloc: Global, symbols: &[Symbol]) -> Forest<Mark>
+fn two_levels(rt: &impl Abort, alloc: Global, symbols: &[Symbol]) -> Forest<Numbered>
     requires few { length symbols.now ≤ 1000 }
     requires some { 0 < length symbols.now }
     requires whole { has_cut symbols.now ≡ false }
@@ -102,23 +102,23 @@ fn two_levels(rt: &impl Abort, alloc: Global, symbols: &[Symbol]) -> Forest<Mark
 
 #[test]
 fn a_root_keeps_an_answer(rt: HostRuntime) {
-    let mut forest = Forest::<Mark>::new(rt.alloc()).expect(&rt, "memory");
+    let mut forest = Forest::<Numbered>::new(rt.alloc()).expect(&rt, "memory");
     give_answer(&rt, &mut forest);
     has_an_answer_and_no_child(&rt, &forest);
 }
 
 /// Gives the root of a new forest an answer.
-fn give_answer(rt: &impl Abort, forest: &mut Forest<Mark>)
+fn give_answer(rt: &impl Abort, forest: &mut Forest<Numbered>)
     requires alone { now_of forest.old forest.old.root ≡ Some (root_node forest.old.root) }
     requires few { live_nodes forest.old < 4000 }
 {
     let root = forest.root();
     forest.reserve(1, 0, 0, 2).expect(rt, "memory");
-    forest.set_answer(root, Some(Mark(7)));
+    forest.set_answer(root, Some(Numbered(7)));
 }
 
 /// The root keeps an answer, and has no child.
-fn has_an_answer_and_no_child(rt: &impl Abort, forest: &Forest<Mark>) {
+fn has_an_answer_and_no_child(rt: &impl Abort, forest: &Forest<Numbered>) {
     let root = forest.root();
     is_true(rt, forest.answer(root).is_some());
     is_row(rt, forest.children(root), &[]);
@@ -140,21 +140,21 @@ const SECOND: [u32; 66] = [
 ];
 
 /// A forest of two levels: `ABC[DE][SG[HI[JK]L]MNO]`, and this without the first letter.
-fn skipping(rt: &impl Abort, alloc: Global) -> Forest<Mark>
+fn skipping(rt: &impl Abort, alloc: Global) -> Forest<Numbered>
     ensures { 2 ≤ length (complete_levels result) }
 {
     two_levels(rt, alloc, &contexts_that_skip())
 }
 
 /// These tags are read where a level of a forest is walked both ways.
-fn is_walked(rt: &impl Abort, alloc: Global, forest: &Forest<Mark>, level: u32, want: &[u32])
+fn is_walked(rt: &impl Abort, alloc: Global, forest: &Forest<Numbered>, level: u32, want: &[u32])
     requires { level < length (complete_levels forest.now) }
 {
     is_row(rt, walk(rt, alloc, forest, level).as_slice(), want);
 }
 
 /// Both levels are walked both ways.
-fn are_walked(rt: &impl Abort, alloc: Global, forest: Forest<Mark>)
+fn are_walked(rt: &impl Abort, alloc: Global, forest: Forest<Numbered>)
     requires { 2 ≤ length (complete_levels forest) }
 {
     is_walked(rt, alloc, &forest, 0, &FIRST);

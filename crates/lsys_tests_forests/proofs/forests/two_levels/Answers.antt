@@ -7,7 +7,7 @@ use Rattle.lsys_forest.specs.Nodes.{Node, Nodes, new_node, with_node, with_kids,
 use Rattle.lsys_forest.specs.Groves.{now_of, AreKids}
 use Rattle.lsys_forest.specs.Rows.{complete_levels}
 use Rattle.lsys_forest.proofs.StockLemmas.{put_other}
-use Rattle.lsys_tests_forests.specs.declared.forests.Mark.{Mark}
+use Rattle.lsys_tests_forests.specs.declared.forests.Numbered.{Numbered}
 use Rattle.lsys_tests_forests.proofs.Grown.{AreGrown, IsHalf, whole_at, take_next, take_long, take_whole, first_step, grown_long, grown_kids, half_start, half_step, turn_at, half_end, root_lives, lone_kid, both_complete}
 use Rattle.lsys_tests_forests.proofs.forests.two_levels.Goals as goal
 
@@ -20,7 +20,7 @@ loop-place-preserved g c =
     let root = c.root-root.result in
     let e = c.grow-node.ensures in
     let k = c.grow-node.result in
-    let top : Node Mark = root_node root in
+    let top : Node Numbered = root_node root in
     let added = e.added top was.alone in
     let items : c.push.new.self.items ≡ c.loop-place.parents.items ++ k ∷ [] = search rules in
     let step = first_step (now_of c.loop-place.forest) (now_of c.grow-node.new.forest) root c.loop-place.parents.items c.args.symbols.now c.loop-place.place k c.index-symbols-place.result top _ was.grown was.apart c.loop-place-test.true c.index-symbols-place.is was.alone e.fresh refl refl refl added in
@@ -57,7 +57,7 @@ loop-at-init g c =
     let e = c.give.ensures in
     let all = take_whole xs c.loop-place.place c.loop-place-test.false in
     let grown = subst (AreGrown m root c.loop-place.parents.items) all was.grown in
-    let top : Node Mark = root_node root in
+    let top : Node Numbered = root_node root in
     let set : m' ≡ with_node m root (Some (with_kids c.loop-place.parents.items top)) = subst (λ l. m' ≡ with_node m root (Some (with_kids l top))) c.deref.ensures.value (e.set top was.alone) in
     record {
       half = subst (λ r. IsHalf m' r c.loop-place.parents.items xs 1) (sym (e.root ∙ was.root_is)) (half_start m m' root c.loop-place.parents.items xs top grown was.apart set c.requires.some);
@@ -100,9 +100,9 @@ give-requires-in-loop-at-clause-lives g c =
     let e = c.grow-child.ensures in
     let m1 = now_of c.grow-child.new.forest in
     let born = new_node p 0 0 (t.node.depth + 1) (seen_in c.index-symbols-at.result) 0 in
-    let with_child : Nodes Mark = with_node m c.grow-child.result (Some born) in
+    let with_child : Nodes Numbered = with_node m c.grow-child.result (Some born) in
     let added : m1 ≡ with_child = e.added t.node t.is in
-    let stays : m1 p ≡ Some t.node = ap (λ (f : Nodes Mark). f p) {y = with_child} added ∙ put_other m c.grow-child.result p _ (λ same. none-some t.node (sym e.fresh ∙ ap m (sym same) ∙ t.is)) ∙ t.is in
+    let stays : m1 p ≡ Some t.node = ap (λ (f : Nodes Numbered). f p) {y = with_child} added ∙ put_other m c.grow-child.result p _ (λ same. none-some t.node (sym e.fresh ∙ ap m (sym same) ∙ t.is)) ∙ t.is in
     subst IsSome (sym stays) refl
 
 pub give-requires-in-loop-at-clause-kids : goal.give-requires-in-loop-at-clause-kids
@@ -135,9 +135,9 @@ loop-at-preserved g c =
     let e = c.grow-child.ensures in
     let m1 = now_of c.grow-child.new.forest in
     let born = new_node p 0 0 (t.node.depth + 1) (seen_in c.index-symbols-at.result) 0 in
-    let with_child : Nodes Mark = with_node m c.grow-child.result (Some born) in
+    let with_child : Nodes Numbered = with_node m c.grow-child.result (Some born) in
     let added : m1 ≡ with_child = e.added t.node t.is in
-    let stays : m1 p ≡ Some t.node = ap (λ (f : Nodes Mark). f p) {y = with_child} added ∙ put_other m c.grow-child.result p _ (λ same. none-some t.node (sym e.fresh ∙ ap m (sym same) ∙ t.is)) ∙ t.is in
+    let stays : m1 p ≡ Some t.node = ap (λ (f : Nodes Numbered). f p) {y = with_child} added ∙ put_other m c.grow-child.result p _ (λ same. none-some t.node (sym e.fresh ∙ ap m (sym same) ∙ t.is)) ∙ t.is in
     let f = c.give-in-loop-at.ensures in
     let m2 = now_of c.give-in-loop-at.new.forest in
     let x = c.index-symbols-at.result in

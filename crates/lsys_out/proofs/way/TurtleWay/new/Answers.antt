@@ -4,7 +4,7 @@ use Rattle.lsys_level.specs.Spots.{spots_at, level_by}
 use Rattle.lsys_hom.specs.Coming.{Coming, coming}
 use Rattle.lsys_out.specs.Drawings.{drawing, last_image}
 use Rattle.lsys_out.proofs.Going.{can_begin, few_begin}
-use Rattle.lsys_out.proofs.way.Way.new.Goals as goal
+use Rattle.lsys_out.proofs.way.TurtleWay.new.Goals as goal
 
 pub invariant_of-result : goal.invariant_of-result
 invariant_of-result g c =

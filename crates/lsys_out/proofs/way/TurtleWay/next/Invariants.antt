@@ -1,7 +1,7 @@
 use Rattle.std.proofs.Common.{◌≡◌, ◌≤◌, length}
 use Rattle.lsys_out.specs.Drawings.{drawing}
 use Rattle.lsys_out.specs.Nesting.{CanGo}
-use Rattle.lsys_out.proofs.way.Way.next.Given as goal
+use Rattle.lsys_out.proofs.way.TurtleWay.next.Given as goal
 
 -- no segment was drawn so far
 abbrev pub invariant-symbols : goal.invariant-symbols

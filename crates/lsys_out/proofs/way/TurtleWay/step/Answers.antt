@@ -5,7 +5,7 @@ use Rattle.lsys_spec.specs.Pictures.{NoImage}
 use Rattle.lsys_out.specs.Drawings.{IsLookedAt, IsStepped, Way, drawing}
 use Rattle.lsys_out.specs.Nesting.{CanGo}
 use Rattle.lsys_out.proofs.Looking.{can_go_on, can_take, drawing_taken, on_step}
-use Rattle.lsys_out.proofs.way.Way.step.Goals as goal
+use Rattle.lsys_out.proofs.way.TurtleWay.step.Goals as goal
 
 pub go-requires : goal.go-requires
 go-requires g c =

@@ -3,7 +3,7 @@ use Rattle.lsys_spec.specs.Pictures.{turtle_step}
 use Rattle.lsys_hom.specs.Looks.{looked_at}
 use Rattle.lsys_turtle.specs.Ways.{stepped_of}
 use Rattle.lsys_out.specs.Drawings.{IsStopped, drawing, drawn_on}
-use Rattle.lsys_out.proofs.way.Way.go.Goals as goal
+use Rattle.lsys_out.proofs.way.TurtleWay.go.Goals as goal
 
 pub returns-in-Ok-None-clause-gone : goal.returns-in-Ok-None-clause-gone
 returns-in-Ok-None-clause-gone g c =

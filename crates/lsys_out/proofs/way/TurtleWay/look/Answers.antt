@@ -5,7 +5,7 @@ use Rattle.lsys_hom.specs.Refusals.{refusal_of}
 use Rattle.lsys_spec.specs.Pictures.{modules_to}
 use Rattle.lsys_out.specs.Drawings.{Way}
 use Rattle.lsys_out.proofs.Looking.{counted, short_modules}
-use Rattle.lsys_out.proofs.way.Way.look.Goals as goal
+use Rattle.lsys_out.proofs.way.TurtleWay.look.Goals as goal
 
 pub returns-in-Ok-Some : goal.returns-in-Ok-Some
 returns-in-Ok-Some g c =

@@ -1,5 +1,5 @@
 use Rattle.std.proofs.Common.{◌≡◌, ◌≤◌, length}
-use Rattle.lsys_out.proofs.way.Way.refusal.Given as goal
+use Rattle.lsys_out.proofs.way.TurtleWay.refusal.Given as goal
 
 -- symbols were passed, and nothing else
 abbrev pub invariant-symbols : goal.invariant-symbols
