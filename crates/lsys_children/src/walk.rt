@@ -36,8 +36,9 @@ pub fn walk_parents<L: Ledger>(
     let mut cutting = None;
     for node in nodes {
         let opens = is_open(forest, *node);
-        let is_cut = !stays(cutting, &forest.symbol(*node));
-        cutting = reached(cutting, &forest.symbol(*node), opens);
+        let sight = forest.symbol(*node);
+        let is_cut = !stays(cutting, &sight);
+        cutting = reached(cutting, &sight, opens);
         parents.push(Parent {
             node: *node,
             is_cut,

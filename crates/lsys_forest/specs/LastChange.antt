@@ -44,6 +44,10 @@ module _ {A : Type 0} where
     TakesOneUp old new before after look =
         (c : Change A) × TakesUp old new c look × Releases run_at holds (old_answer c) before after
 
+    -- the same, whichever nodes a commit looks at
+    abbrev pub ForgetsOne : Stock A → Stock A → Store → Store → Type 0
+    ForgetsOne old new before after = (look : Look) × TakesOneUp old new before after look
+
     -- the last note was taken up: its answer was released, and this is left of it
     abbrev pub TakesNoteUp : Notes A → Notes A → Store → Store → Remnant → Type 0
     TakesNoteUp old new before after left =

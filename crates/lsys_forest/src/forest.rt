@@ -19,6 +19,7 @@ ghost use Rattle.lsys_forest.specs.Neighbours.{IsNextIn, IsChildFrom, IsFirstBel
 use crate::around::{Around, linked_around};
 use crate::kept::Kept;
 use crate::link::link_levels;
+use crate::loose::{Loose, loose_beside, loose_with};
 use crate::node::{NodeId, NodeKind};
 use crate::pairs::mate_levels;
 use crate::seen::is_seen;
@@ -41,6 +42,8 @@ pub struct Forest<A> {
     linked: u32,
     /// On how many levels, from the first one on, the mates of brackets stand at them.
     mated: u32,
+    /// Which nodes may be among no children.
+    loose: Loose,
     spare_nodes: usize,
     spare_notes: usize,
 }
@@ -49,6 +52,7 @@ impl<A> Model for Forest<A> {
     ghost use Rattle.lsys_forest.specs.Groves.{Grove, IsGrove};
     ghost use Rattle.lsys_forest.specs.Ranks.{AreRanked, AreLinked};
     ghost use Rattle.lsys_forest.specs.Pairs.{AreMated};
+    ghost use Rattle.lsys_forest.specs.Loosened.{AreLoose};
     ghost use Rattle.lsys_forest.specs.Stocks.{nodes_of};
 
     ghost Value = { Grove A };
@@ -60,6 +64,7 @@ impl<A> Model for Forest<A> {
       ranked : AreRanked (nodes_of a.parts) a.parts.footings;
       linked : AreLinked (nodes_of a.parts) a.root a.parts.footings a.linked;
       mated : AreMated (nodes_of a.parts) a.root a.parts.footings a.mated;
+      loose : AreLoose a.loose (nodes_of a.parts) a.root;
     } };
 }
 
@@ -84,6 +89,7 @@ impl<A: Kept> Forest<A> {
             root: NodeId(0),
             linked: 0,
             mated: 0,
+            loose: Loose::Nobody,
             spare_nodes: 0,
             spare_notes: 0,
         })
@@ -158,6 +164,7 @@ impl<A: Kept> Forest<A> {
             Some(above) => above.depth + 1,
             None => unreachable!(),
         };
+        self.loose = loose_with(self.loose, &self.parts, parent);
         self.spare_nodes -= 1;
         self.spare_notes -= 1;
         self.parts.insert(parent, code, count, depth, symbol, key)
@@ -174,6 +181,7 @@ impl<A: Kept> Forest<A> {
         ensures kept { kept_in self.new ≡ kept_in self.old }
         ensures spends { Spends self.old self.new 0 0 (list_room kids.now) 1 }
     {
+        self.loose = loose_beside(self.loose, &self.parts, node, kids);
         self.spare_notes -= 1;
         self.parts.set_kids(node, kids);
         self.parts.rerank(node);
@@ -379,10 +387,12 @@ impl<A: Kept> Forest<A> {
     {
         undo_all(&mut self.parts, self.root, &mut self.linked, store);
         self.mated = 0;
+        self.loose = Loose::Nobody;
     }
 
     /// Keeps the forest as it is, as a rest: the nodes that are reached from the root stay node for node, and all others
-    /// are given back, with the runs of all answers that are kept no more. It takes no memory.
+    /// are given back, with the runs of all answers that are kept no more. It takes no memory. Where since the last rest nodes were
+    /// added alone, each lot of them at once to a node without children, no node is looked at.
     pub fn commit(&mut self, store: &mut A::Store)
         requires made { LiveApart A.run_at A.Holds store.old (kept_in self.old) }
         ensures stay { KeepsReached self.old self.new }
@@ -393,7 +403,8 @@ impl<A: Kept> Forest<A> {
         ensures store { FreesAllBesides A.run_at A.Holds self.old (now_of self.new) store.old store.new }
         ensures still { LiveApart A.run_at A.Holds store.new (kept_in self.new) }
     {
-        sweep_all(&mut self.parts, self.root, store);
+        sweep_all(&mut self.parts, self.root, self.loose, store);
+        self.loose = Loose::Nobody;
     }
 }
 

@@ -12,6 +12,7 @@ mod kept;
 mod law;
 mod link;
 mod lists;
+mod loose;
 mod node;
 mod note;
 mod pairs;

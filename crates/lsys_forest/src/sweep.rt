@@ -3,14 +3,16 @@ ghost use Rattle.std.specs.Prelude.{◌≡◌, ◌↔◌, slice_get, ◌+◌, �
 ghost use Rattle.lsys_spec.specs.Rows.{In};
 ghost use Rattle.lsys_forest.specs.Slots.{live_slots};
 ghost use Rattle.lsys_forest.specs.Nodes.{Node};
-ghost use Rattle.lsys_forest.specs.Answers.{LiveApart};
+ghost use Rattle.lsys_forest.specs.Answers.{LiveApart, Lives, old_answer};
 ghost use Rattle.lsys_forest.specs.Stocks.{nodes_of, changes_of, named_by, KeepsRoom, KeepsFootings};
 ghost use Rattle.lsys_forest.specs.Groves.{IsRooted};
 ghost use Rattle.lsys_forest.specs.Ranks.{AreRanked};
 ghost use Rattle.lsys_forest.specs.Sweeps.{IsSwept, SweepsLeft, KeepsPlaces, SweepsOne, IsLooseIf, IsFastUnless, LacksKidUnless};
-ghost use Rattle.lsys_forest.specs.LastChange.{answers_in, StoreFollows};
+ghost use Rattle.lsys_forest.specs.Loosened.{AreLoose};
+ghost use Rattle.lsys_forest.specs.LastChange.{answers_in, StoreFollows, ForLastChange, StaysUnchanged, ForgetsOne};
 
 use crate::kept::Kept;
+use crate::loose::Loose;
 use crate::node::NodeId;
 use crate::note::Look;
 use crate::stock::Parts;
@@ -94,8 +96,59 @@ fn sweep_looked<A: Kept>(parts: &mut Parts<A>, root: NodeId, look: Look, store: 
     }
 }
 
-/// Removes each node that is not reached from the root.
-pub(crate) fn sweep_all<A: Kept>(parts: &mut Parts<A>, root: NodeId, store: &mut A::Store)
+/// Removes each node that is not reached from the root. Where none is loose, none is looked at.
+pub(crate) fn sweep_all<A: Kept>(
+    parts: &mut Parts<A>,
+    root: NodeId,
+    loose: Loose,
+    store: &mut A::Store,
+)
+    requires places { live_slots parts.old.slots ≤ parts.old.note_room }
+    requires sound { IsRooted root (changes_of parts.old) (nodes_of parts.old) }
+    requires ranked { AreRanked (nodes_of parts.old) parts.old.footings }
+    requires loose { AreLoose loose (nodes_of parts.old) root }
+    requires made { LiveApart A.run_at A.Holds store.old (answers_in parts.old) }
+    ensures swept { IsSwept (nodes_of parts.old) root (nodes_of parts.new) [] [] }
+    ensures footings { KeepsFootings (nodes_of parts.new) parts.old parts.new }
+    ensures ranked { AreRanked (nodes_of parts.new) parts.new.footings }
+    ensures empty { changes_of parts.new ≡ [] }
+    ensures live { live_slots parts.new.slots ≤ live_slots parts.old.slots }
+    ensures room { KeepsRoom parts.old parts.new }
+    ensures made { LiveApart A.run_at A.Holds store.new (answers_in parts.new) }
+    ensures freed { StoreFollows A.run_at A.Holds parts.old store.old parts.new store.new }
+{
+    match loose {
+        Loose::Nobody => forget_all(parts, store),
+        _ => sweep_named(parts, root, store),
+    }
+}
+
+/// Takes up each change, and removes no node.
+fn forget_all<A: Kept>(parts: &mut Parts<A>, store: &mut A::Store)
+    requires { LiveApart A.run_at A.Holds store.old (answers_in parts.old) }
+    ensures nodes { nodes_of parts.new ≡ nodes_of parts.old }
+    ensures footings { parts.new.footings ≡ parts.old.footings }
+    ensures empty { changes_of parts.new ≡ [] }
+    ensures live { live_slots parts.new.slots ≡ live_slots parts.old.slots }
+    ensures room { KeepsRoom parts.old parts.new }
+    ensures made { LiveApart A.run_at A.Holds store.new (answers_in parts.new) }
+    ensures freed { StoreFollows A.run_at A.Holds parts.old store.old parts.new store.new }
+{
+    while forget_one(parts, store) {}
+    parts.put_down();
+}
+
+/// Takes up the last change, and tells whether there was one.
+fn forget_one<A: Kept>(parts: &mut Parts<A>, store: &mut A::Store) -> bool
+    requires { ForLastChange parts.old (λ c. Lives A.run_at A.Holds store.old (old_answer c)) }
+    ensures taken { IsTrue result → ForgetsOne A.run_at A.Holds parts.old parts.new store.old store.new }
+    ensures none { result ≡ false → StaysUnchanged parts.old parts.new store.old store.new }
+{
+    parts.take_last(store).is_some()
+}
+
+/// Removes each node that is not reached from the root, by a look at those that a change names.
+fn sweep_named<A: Kept>(parts: &mut Parts<A>, root: NodeId, store: &mut A::Store)
     requires places { live_slots parts.old.slots ≤ parts.old.note_room }
     requires sound { IsRooted root (changes_of parts.old) (nodes_of parts.old) }
     requires ranked { AreRanked (nodes_of parts.old) parts.old.footings }

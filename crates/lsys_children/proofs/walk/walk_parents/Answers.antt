@@ -16,12 +16,8 @@ pub is_open-opens-requires-clause-short : goal.is_open-opens-requires-clause-sho
 is_open-opens-requires-clause-short g c =
     c.requires.short c.node-item.result (get_In c.args.nodes.now c.loop-node.node-index c.node-item.result (slice_get_read c.args.nodes.now (length c.args.nodes.now) c.loop-node.node-index c.node-item.result refl c.loop-node-test.true c.node-item.is))
 
-pub symbol-requires : goal.symbol-requires
-symbol-requires g c =
-    c.requires.lives c.node-item.result (get_In c.args.nodes.now c.loop-node.node-index c.node-item.result (slice_get_read c.args.nodes.now (length c.args.nodes.now) c.loop-node.node-index c.node-item.result refl c.loop-node-test.true c.node-item.is))
-
-pub symbol-requires-in-loop-node : goal.symbol-requires-in-loop-node
-symbol-requires-in-loop-node g c =
+pub symbol-sight-requires : goal.symbol-sight-requires
+symbol-sight-requires g c =
     c.requires.lives c.node-item.result (get_In c.args.nodes.now c.loop-node.node-index c.node-item.result (slice_get_read c.args.nodes.now (length c.args.nodes.now) c.loop-node.node-index c.node-item.result refl c.loop-node-test.true c.node-item.is))
 
 pub loop-node-init : goal.loop-node-init
@@ -35,14 +31,13 @@ loop-node-preserved g c =
     let k = c.node-item.result in
     let here : slice_get ks i ≡ Some k = slice_get_read ks (length ks) i k refl c.loop-node-test.true c.node-item.is in
     let n = some_of (m k) (c.requires.lives k (get_In ks i k here)) in
-    let one = kind_seen m k n.0 (seen_of c.symbol.result) n.1 (c.symbol.ensures.seen n.0 n.1) in
-    let two = kind_seen m k n.0 (seen_of c.symbol-in-loop-node.result) n.1 (c.symbol-in-loop-node.ensures.seen n.0 n.1) in
+    let kind = kind_seen m k n.0 (seen_of c.symbol-sight.result) n.1 (c.symbol-sight.ensures.seen n.0 n.1) in
     subst (λ ps. IsWalked m ks (i + 1) c.args.parents.now.items ps c.reached-cutting.result c.either-any_opens.result) (sym c.in_ok-push.ensures.items)
     (walk_goes_on m ks i k c.args.parents.now.items c.loop-node.parents.items c.loop-node.cutting c.reached-cutting.result c.loop-node.any_opens c.is_open-opens.result c.either-any_opens.result
     (record { node = k; is_cut = not c.stays-is_cut.result })
     c.loop-node.invariant here c.is_open-opens.ensures
-    (ap (λ b. record { node = k; is_cut = not b }) (c.stays-is_cut.ensures ∙ ap (stays c.loop-node.cutting) one))
-    (c.reached-cutting.ensures.reached ∙ ap (λ kind. reached c.loop-node.cutting kind c.is_open-opens.result) two)
+    (ap (λ b. record { node = k; is_cut = not b }) (c.stays-is_cut.ensures ∙ ap (stays c.loop-node.cutting) kind))
+    (c.reached-cutting.ensures.reached ∙ ap (λ k. reached c.loop-node.cutting k c.is_open-opens.result) kind)
     (few_more i c.loop-node.cutting c.reached-cutting.result c.loop-node.invariant.few c.reached-cutting.ensures.few c.reached-cutting.ensures.first)
     c.either-any_opens.ensures)
 

@@ -2,7 +2,7 @@ use Rattle.std.proofs.Common.{◌≡◌, ◌<◌, ◌+◌, ◌-◌, [], Some, No
 use Rattle.std.specs.Prelude.{IsSome}
 use Rattle.lsys_level.specs.Places.{seen_in, params_in}
 use Rattle.lsys_region.specs.Rooms.{list_room}
-use Rattle.lsys_forest.specs.Nodes.{Node}
+use Rattle.lsys_forest.specs.Nodes.{Node, Nodes}
 use Rattle.lsys_forest.specs.Stocks.{nodes_of, changes_of}
 use Rattle.lsys_forest.specs.Groves.{Grove, now_of, Sets, kept_in}
 use Rattle.lsys_forest.proofs.SoundLemmas.{some_of}
@@ -18,7 +18,11 @@ use Rattle.std.specs.Option.{option_and_then}
 use Rattle.lsys_forest.specs.Changes.{Missing}
 use Rattle.lsys_forest.proofs.LinkLemmas.{add_linked}
 use Rattle.lsys_forest.proofs.MatedLemmas.{add_mated}
+use Rattle.lsys_forest.specs.Loosened.{AreLoose}
 use Rattle.lsys_forest.proofs.forest.Forest.add.Goals as goal
+
+pub loose_with-self-inside-requires : goal.loose_with-self-inside-requires
+loose_with-self-inside-requires g c = subst (λ (f : Grove g.row.A.Denot). IsSome (now_of f c.args.parent)) (sym c.self.view_is) c.requires.parent
 
 pub overflow_add-depth : goal.overflow_add-depth
 overflow_add-depth g c =
@@ -50,6 +54,7 @@ invariant_of-self g c =
       ranked = add_ranked i.root i.parts c.insert.new.self c.insert.result n (list_room (params_in c.args.symbol.now)) 0 (sound_now c.self.invariant.grove) refl c.insert.ensures.added c.self.invariant.ranked;
       linked = add_linked i.root i.parts c.insert.new.self c.insert.result i.linked n (list_room (params_in c.args.symbol.now)) 0 (sound_now c.self.invariant.grove) c.insert.ensures.vacant refl c.insert.ensures.added c.self.invariant.linked;
       mated = add_mated i.root i.parts c.insert.new.self c.insert.result i.mated n (list_room (params_in c.args.symbol.now)) 0 (sound_now c.self.invariant.grove) c.insert.ensures.vacant refl c.insert.ensures.added c.self.invariant.mated;
+      loose = subst (λ (m : Nodes g.row.A.Denot). AreLoose c.loose_with-self-inside.result m i.root) (sym c.insert.ensures.added.nodes) (c.loose_with-self-inside.ensures i.root c.insert.result n c.insert.ensures.vacant c.self.invariant.loose);
     }
 
 pub returns-clause-added : goal.returns-clause-added

@@ -9,6 +9,7 @@ use Rattle.lsys_forest.proofs.GroveLemmas.{sound_now, IsGrove-rest}
 use Rattle.lsys_forest.proofs.AnswerLemmas.{frees_by}
 use Rattle.lsys_forest.proofs.LinkLemmas.{swept_linked}
 use Rattle.lsys_forest.proofs.MatedLemmas.{swept_mated}
+use Rattle.lsys_forest.proofs.LooseLemmas.{fast_at_rest}
 use Rattle.lsys_forest.proofs.forest.Forest.commit.Goals as goal
 
 pub sweep_all-requires-clause-made : goal.sweep_all-requires-clause-made
@@ -27,6 +28,7 @@ invariant_of-self g c =
       ranked = e.ranked;
       linked = swept_linked i.root (nodes_of i.parts) (nodes_of c.sweep_all.new.parts) i.parts.footings c.sweep_all.new.parts.footings i.linked sound (left_stood (nodes_of i.parts) i.root (nodes_of c.sweep_all.new.parts) e.swept) e.footings c.self.invariant.linked;
       mated = swept_mated i.root (nodes_of i.parts) (nodes_of c.sweep_all.new.parts) i.parts.footings c.sweep_all.new.parts.footings i.mated sound (left_stood (nodes_of i.parts) i.root (nodes_of c.sweep_all.new.parts) e.swept) e.footings c.self.invariant.mated;
+      loose = fast_at_rest (nodes_of c.sweep_all.new.parts) i.root sound;
     }
 
 pub returns-clause-stay : goal.returns-clause-stay

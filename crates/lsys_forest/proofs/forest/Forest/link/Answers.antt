@@ -8,6 +8,7 @@ use Rattle.lsys_forest.proofs.GroveLemmas.{sound_now}
 use Rattle.lsys_forest.proofs.ViewLemmas.{levels_by}
 use Rattle.lsys_forest.specs.Pairs.{AreMated}
 use Rattle.lsys_forest.proofs.MatedLemmas.{same_mated}
+use Rattle.lsys_forest.specs.Loosened.{AreLoose}
 use Rattle.lsys_forest.proofs.forest.Forest.link.Goals as goal
 
 pub link_levels-self-inside-requires-clause-sound : goal.link_levels-self-inside-requires-clause-sound
@@ -36,6 +37,7 @@ invariant_of-self g c =
       ranked = e.ranked;
       linked = e.linked;
       mated = e.mated;
+      loose = subst (λ (t : Stock g.row.A.Denot). AreLoose i.loose (nodes_of t) i.root) (sym (c.mate_levels-self-inside.ensures.same ∙ ap (λ (t : Stock g.row.A.Denot). record t { footings = c.mate_levels-self-inside.new.parts.footings }) c.link_levels-self-inside.ensures.same)) c.self.invariant.loose;
     }
 
 pub returns-clause-now : goal.returns-clause-now

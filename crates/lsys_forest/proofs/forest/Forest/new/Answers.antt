@@ -6,6 +6,7 @@ use Rattle.lsys_forest.proofs.StockLemmas.{put_same, put_other}
 use Rattle.lsys_forest.proofs.GroveLemmas.{IsSound-root}
 use Rattle.lsys_forest.proofs.SoundLemmas.{AreSound-rest}
 use Rattle.lsys_forest.proofs.RankLemmas.{ranked_root}
+use Rattle.lsys_forest.proofs.LooseLemmas.{fast_at_rest}
 use Rattle.lsys_forest.proofs.forest.Forest.new.Goals as goal
 
 pub invariant_of-result : goal.invariant_of-result
@@ -24,6 +25,7 @@ invariant_of-result g c =
       ranked = ranked_root (nodes_of p) p.footings e.nodes;
       linked = λ t k way before after less whole. absurd (omega (arith, less));
       mated = λ t less. absurd (omega (arith, less));
+      loose = fast_at_rest (nodes_of p) 0 sound;
     }
 
 pub returns-clause-root : goal.returns-clause-root

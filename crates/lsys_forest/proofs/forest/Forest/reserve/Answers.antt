@@ -8,6 +8,7 @@ use Rattle.lsys_forest.specs.Ranks.{AreRanked, AreLinked}
 use Rattle.lsys_forest.specs.Pairs.{AreMated}
 use Rattle.lsys_forest.specs.Groves.{Grove, live_nodes, rest_of, IsGrove, KeepsSpares}
 use Rattle.lsys_forest.proofs.GroveLemmas.{IsGrove-room}
+use Rattle.lsys_forest.specs.Loosened.{AreLoose}
 use Rattle.lsys_forest.proofs.forest.Forest.reserve.Goals.{then-room-nodes, else-room-nodes}
 use Rattle.lsys_forest.proofs.forest.Forest.reserve.Goals as goal
 
@@ -21,6 +22,7 @@ invariant_of-self g c =
       ranked = subst (λ (m : Nodes g.row.A.Denot). AreRanked m c.reserve.new.self.footings) (sym e.nodes) (subst (AreRanked (nodes_of i.parts)) (sym e.footings) c.self.invariant.ranked);
       linked = subst (λ (m : Nodes g.row.A.Denot). AreLinked m i.root c.reserve.new.self.footings i.linked) (sym e.nodes) (subst (λ fs. AreLinked (nodes_of i.parts) i.root fs i.linked) (sym e.footings) c.self.invariant.linked);
       mated = subst (λ (m : Nodes g.row.A.Denot). AreMated m i.root c.reserve.new.self.footings i.mated) (sym e.nodes) (subst (λ fs. AreMated (nodes_of i.parts) i.root fs i.mated) (sym e.footings) c.self.invariant.mated);
+      loose = subst (λ (m : Nodes g.row.A.Denot). AreLoose i.loose m i.root) (sym e.nodes) c.self.invariant.loose;
     }
 
 pub invariant_of-self-2 : goal.invariant_of-self-2
@@ -41,6 +43,7 @@ invariant_of-self-2 g c =
       ranked = subst (λ (t : Stock g.row.A.Denot). AreRanked (nodes_of t) t.footings) (sym r.same) (subst (λ (m : Nodes g.row.A.Denot). AreRanked m c.reserve.new.self.footings) (sym e.nodes) (subst (AreRanked (nodes_of i.parts)) (sym e.footings) c.self.invariant.ranked));
       linked = subst (λ (t : Stock g.row.A.Denot). AreLinked (nodes_of t) i.root t.footings i.linked) (sym r.same) (subst (λ (m : Nodes g.row.A.Denot). AreLinked m i.root c.reserve.new.self.footings i.linked) (sym e.nodes) (subst (λ fs. AreLinked (nodes_of i.parts) i.root fs i.linked) (sym e.footings) c.self.invariant.linked));
       mated = subst (λ (t : Stock g.row.A.Denot). AreMated (nodes_of t) i.root t.footings i.mated) (sym r.same) (subst (λ (m : Nodes g.row.A.Denot). AreMated m i.root c.reserve.new.self.footings i.mated) (sym e.nodes) (subst (λ fs. AreMated (nodes_of i.parts) i.root fs i.mated) (sym e.footings) c.self.invariant.mated));
+      loose = subst (λ (t : Stock g.row.A.Denot). AreLoose i.loose (nodes_of t) i.root) (sym r.same) (subst (λ (m : Nodes g.row.A.Denot). AreLoose i.loose m i.root) (sym e.nodes) c.self.invariant.loose);
     }
 
 pub returns-clause-now : goal.returns-clause-now

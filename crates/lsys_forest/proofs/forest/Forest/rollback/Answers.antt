@@ -5,6 +5,7 @@ use Rattle.lsys_forest.specs.Answers.{answers, kept_by, LiveApart, FreesAllBut}
 use Rattle.lsys_forest.specs.Groves.{Grove, rest_of, kept_in, Spends, IsRooted}
 use Rattle.lsys_forest.proofs.GroveLemmas.{sound_rest, IsGrove-rest}
 use Rattle.lsys_forest.proofs.AnswerLemmas.{frees_by}
+use Rattle.lsys_forest.proofs.LooseLemmas.{fast_at_rest}
 use Rattle.lsys_forest.proofs.forest.Forest.rollback.Goals as goal
 
 pub undo_all-requires : goal.undo_all-requires
@@ -24,6 +25,7 @@ invariant_of-self g c =
       ranked = e.ranked;
       linked = e.linked;
       mated = λ t less. absurd (omega (arith, less));
+      loose = fast_at_rest (nodes_of c.undo_all.new.parts) i.root (subst (IsRooted i.root []) (sym e.nodes) (sound_rest c.self.invariant.grove));
     }
 
 pub returns-clause-spares : goal.returns-clause-spares

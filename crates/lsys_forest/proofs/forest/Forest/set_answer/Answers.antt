@@ -1,6 +1,6 @@
 use Rattle.std.proofs.Common.{inl, ◌≡◌, ◌<◌, ◌-◌, ◌++◌, ◌∷◌, [], Some, refl, sym, subst, arith}
 use Rattle.std.specs.Prelude.{IsSome}
-use Rattle.lsys_forest.specs.Nodes.{Node, with_answer}
+use Rattle.lsys_forest.specs.Nodes.{Node, with_answer, Nodes}
 use Rattle.lsys_forest.specs.Stocks.{nodes_of, changes_of}
 use Rattle.lsys_forest.specs.Changes.{OldAnswer}
 use Rattle.lsys_forest.specs.Groves.{Grove, now_of, changes_in, Sets, Spends}
@@ -10,6 +10,8 @@ use Rattle.lsys_forest.proofs.GroveLemmas.{sound_now, IsGrove-set, set_rested}
 use Rattle.lsys_forest.proofs.LinkLemmas.{set_linked}
 use Rattle.lsys_forest.proofs.MatedLemmas.{set_mated}
 use Rattle.lsys_forest.proofs.BranchLemmas.{same_sort}
+use Rattle.lsys_forest.specs.Loosened.{AreLoose}
+use Rattle.lsys_forest.proofs.LooseLemmas.{loose_set}
 use Rattle.lsys_forest.proofs.forest.Forest.set_answer.Goals as goal
 
 pub invariant_of-self : goal.invariant_of-self
@@ -24,6 +26,7 @@ invariant_of-self g c =
       ranked = set_ranked i.root i.parts c.set_answer.new.self c.args.node s.0 (with_answer c.args.answer s.0) _ 0 0 (sound_now c.self.invariant.grove) s.1 refl j c.self.invariant.ranked;
       linked = set_linked i.root (changes_of c.set_answer.new.self) i.parts c.set_answer.new.self c.args.node i.linked s.0 (with_answer c.args.answer s.0) _ 0 0 (sound_now grove) s.1 refl j c.self.invariant.linked;
       mated = set_mated i.root (changes_of c.set_answer.new.self) i.parts c.set_answer.new.self c.args.node i.mated i.mated s.0 (with_answer c.args.answer s.0) _ 0 0 (sound_now grove) s.1 refl (inl (same_sort s.0.seen s.0.seen refl)) j (omega arith) c.self.invariant.mated;
+      loose = subst (λ (m : Nodes g.row.A.Denot). AreLoose i.loose m i.root) (sym j.nodes) (loose_set i.loose (nodes_of i.parts) i.root c.args.node s.0 (with_answer c.args.answer s.0) s.1 refl refl c.self.invariant.loose);
     }
 
 pub returns-clause-set : goal.returns-clause-set

@@ -1,7 +1,7 @@
 use Rattle.std.proofs.Common.{◌≡◌, ◌∙◌, ap, ◌<◌, ◌-◌, Some, refl, sym, subst, arith}
 use Rattle.std.specs.Prelude.{IsSome}
 use Rattle.lsys_region.specs.Rooms.{list_room}
-use Rattle.lsys_forest.specs.Nodes.{Node, with_kids}
+use Rattle.lsys_forest.specs.Nodes.{Node, with_kids, Nodes}
 use Rattle.lsys_forest.specs.Stocks.{Stock, nodes_of, changes_of}
 use Rattle.lsys_forest.specs.Slots.{live_slots}
 use Rattle.lsys_forest.specs.Changes.{undone, OldKids}
@@ -17,7 +17,11 @@ use Rattle.lsys_forest.proofs.LinkLemmas.{kids_linked}
 use Rattle.lsys_forest.proofs.MatedLemmas.{kids_mated}
 use Rattle.lsys_forest.specs.Pairs.{AreMated}
 use Rattle.lsys_forest.specs.Rows.{depth_in}
+use Rattle.lsys_forest.specs.Loosened.{AreLoose}
 use Rattle.lsys_forest.proofs.forest.Forest.set_children.Goals as goal
+
+pub loose_beside-self-inside-requires : goal.loose_beside-self-inside-requires
+loose_beside-self-inside-requires g c = subst (λ (f : Grove g.row.A.Denot). IsSome (now_of f c.args.node)) (sym c.self.view_is) c.requires.lives
 
 pub rerank-requires : goal.rerank-requires
 rerank-requires g c =
@@ -50,6 +54,8 @@ invariant_of-self g c =
           (kids_linked i.root (changes_of old) i.parts old footings c.args.node i.linked c.min-self-inside.result s.0 n _ 0 (list_room c.args.kids.now) (sound_now grove) s.1 j e.links (omega (arith, c.min-self-inside.ensures)) (omega (arith, c.min-self-inside.ensures, high)) c.self.invariant.linked);
       mated = subst (λ (t : Stock g.row.A.Denot). AreMated (nodes_of t) i.root footings c.min-self-inside-2.result) (sym e.same)
           (kids_mated i.root (changes_of old) i.parts old footings c.args.node i.mated c.min-self-inside-2.result s.0 n _ 0 (list_room c.args.kids.now) (sound_now grove) s.1 refl j e.mates (omega (arith, c.min-self-inside-2.ensures)) (omega (arith, c.min-self-inside-2.ensures, high)) c.self.invariant.mated);
+      loose = subst (λ (t : Stock g.row.A.Denot). AreLoose c.loose_beside-self-inside.result (nodes_of t) i.root) (sym e.same)
+          (subst (λ (m : Nodes g.row.A.Denot). AreLoose c.loose_beside-self-inside.result m i.root) (sym j.nodes) (c.loose_beside-self-inside.ensures i.root s.0 s.1 kids c.self.invariant.loose));
     }
 
 pub returns-clause-set : goal.returns-clause-set

@@ -3,7 +3,7 @@ use Rattle.std.proofs.Common.{◌≡◌, ◌∙◌, ◌⊎◌, ◌≤◌, ◌<�
 use Rattle.std.specs.Prelude.{IsSome}
 use Rattle.lsys_level.specs.Places.{seen_in, params_in}
 use Rattle.lsys_region.specs.Rooms.{list_room}
-use Rattle.lsys_forest.specs.Nodes.{Node, seen_as, with_seen}
+use Rattle.lsys_forest.specs.Nodes.{Node, seen_as, with_seen, Nodes}
 use Rattle.lsys_forest.specs.Stocks.{nodes_of, changes_of, row_at}
 use Rattle.lsys_forest.specs.Rows.{depth_in}
 use Rattle.lsys_forest.specs.Pairs.{AreSameSort}
@@ -18,6 +18,8 @@ use Rattle.std.specs.Option.{option_and_then}
 use Rattle.lsys_forest.specs.Changes.{OldSeen}
 use Rattle.lsys_forest.proofs.LinkLemmas.{set_linked}
 use Rattle.lsys_forest.proofs.MatedLemmas.{set_mated}
+use Rattle.lsys_forest.specs.Loosened.{AreLoose}
+use Rattle.lsys_forest.proofs.LooseLemmas.{loose_set}
 use Rattle.lsys_forest.proofs.forest.Forest.set_symbol.Goals as goal
 
 pub kind-kind-requires : goal.kind-kind-requires
@@ -42,6 +44,7 @@ invariant_of-self g c =
       ranked = set_ranked i.root i.parts c.set_symbol.new.self c.args.node s.0 (with_seen (seen_in c.args.symbol.now) s.0) _ (list_room (params_in c.args.symbol.now)) 0 (sound_now c.self.invariant.grove) s.1 refl j c.self.invariant.ranked;
       linked = set_linked i.root (changes_of c.set_symbol.new.self) i.parts c.set_symbol.new.self c.args.node i.linked s.0 (with_seen (seen_in c.args.symbol.now) s.0) _ (list_room (params_in c.args.symbol.now)) 0 (sound_now grove) s.1 refl j c.self.invariant.linked;
       mated = set_mated i.root (changes_of c.set_symbol.new.self) i.parts c.set_symbol.new.self c.args.node i.mated c.mated_still-self-inside.result s.0 (with_seen (seen_in c.args.symbol.now) s.0) _ (list_room (params_in c.args.symbol.now)) 0 (sound_now grove) s.1 refl sort j c.mated_still-self-inside.ensures.fewer c.self.invariant.mated;
+      loose = subst (λ (m : Nodes g.row.A.Denot). AreLoose i.loose m i.root) (sym j.nodes) (loose_set i.loose (nodes_of i.parts) i.root c.args.node s.0 (with_seen (seen_in c.args.symbol.now) s.0) s.1 refl refl c.self.invariant.loose);
     }
 
 pub returns-clause-set : goal.returns-clause-set

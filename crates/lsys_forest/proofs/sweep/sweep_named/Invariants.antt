@@ -3,7 +3,7 @@ use Rattle.lsys_forest.specs.Slots.{live_slots}
 use Rattle.lsys_forest.specs.Stocks.{nodes_of, changes_of, KeepsRoom}
 use Rattle.lsys_forest.specs.Answers.{answers, LiveApart, FreesUnheld}
 use Rattle.lsys_forest.specs.Sweeps.{IsSweptOf}
-use Rattle.lsys_forest.proofs.sweep.sweep_all.Given as goal
+use Rattle.lsys_forest.proofs.sweep.sweep_named.Given as goal
 
 abbrev pub invariant-loop-look : goal.invariant-loop-look
 invariant-loop-look g l = record {
