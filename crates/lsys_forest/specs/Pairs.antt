@@ -1,16 +1,17 @@
 -- The mates of the brackets of linked levels.
-use Rattle.std.specs.Prelude.{◌≡◌, ◌≢◌, ◌<◌, ℕ, suc, List, [], ◌∷◌, ◌++◌, Option, Some, None}
+use Rattle.std.specs.Prelude.{◌≡◌, ◌≢◌, ◌<◌, ℕ, suc, Bool, false, List, [], ◌∷◌, ◌++◌, Option, Some, None}
 use Rattle.std.specs.Option.{option_and_then}
 use Rattle.lsys_level.specs.Spots.{Seen, Push, Pop, Module, IsBracket}
 use Rattle.lsys_forest.specs.declared.node.Footing.{Footing}
 use Rattle.lsys_forest.specs.declared.walk.Way.{Way}
 use Rattle.lsys_forest.specs.declared.walk.Way.TheVariants.{Left, Right}
 use Rattle.lsys_forest.specs.Slots.{footing_at, rank_at, footing_mate}
-use Rattle.lsys_forest.specs.Nodes.{Nodes}
+use Rattle.lsys_forest.specs.Nodes.{Node, Nodes}
+use Rattle.lsys_forest.specs.Changes.{undone}
 use Rattle.lsys_forest.specs.Rows.{oriented, level_nodes, spot_in}
 use Rattle.lsys_forest.specs.Mates.{one_less}
 use Rattle.lsys_forest.specs.Ranks.{KeepsLinks}
-use Rattle.lsys_forest.specs.Stocks.{Stock, nodes_of}
+use Rattle.lsys_forest.specs.Stocks.{Stock, nodes_of, changes_of}
 
 -- how many branches are open after a symbol, that way; none where the symbol ends the branch that is walked along
 abbrev pub open_after : Way → Seen → ℕ → Option ℕ
@@ -97,3 +98,13 @@ module _ {A : Type 0} where
   abbrev pub AreMated : Nodes A → ℕ → List Footing → ℕ → Type 0
   AreMated m root footings mated =
       (t : ℕ) → t < mated → AreMatedIn (seen_at m) (level_nodes m root t) footings
+
+  -- no node but the root is a bracket
+  abbrev pub AreModules : Nodes A → ℕ → Type 0
+  AreModules m root = (k : ℕ) (n : Node A) → m k ≡ Some n → k ≢ root → IsBracket n.seen → ⊥
+
+  -- unless there are branches, it is so, and was at the last rest
+  abbrev pub AreModulesUnless : Bool → Stock A → ℕ → Type 0
+  AreModulesUnless branches t root =
+      branches ≡ false
+      → AreModules (nodes_of t) root × AreModules (undone (changes_of t) (nodes_of t)) root

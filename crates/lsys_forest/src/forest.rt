@@ -21,7 +21,7 @@ use crate::kept::Kept;
 use crate::link::link_levels;
 use crate::loose::{Loose, loose_beside, loose_with};
 use crate::node::{NodeId, NodeKind};
-use crate::pairs::mate_levels;
+use crate::pairs::{branches_with, find_mates};
 use crate::seen::is_seen;
 use crate::stock::Parts;
 use crate::sweep::sweep_all;
@@ -42,6 +42,8 @@ pub struct Forest<A> {
     linked: u32,
     /// On how many levels, from the first one on, the mates of brackets stand at them.
     mated: u32,
+    /// Whether there are brackets among the nodes, or were before.
+    branches: bool,
     /// Which nodes may be among no children.
     loose: Loose,
     spare_nodes: usize,
@@ -51,7 +53,7 @@ pub struct Forest<A> {
 impl<A> Model for Forest<A> {
     ghost use Rattle.lsys_forest.specs.Groves.{Grove, IsGrove};
     ghost use Rattle.lsys_forest.specs.Ranks.{AreRanked, AreLinked};
-    ghost use Rattle.lsys_forest.specs.Pairs.{AreMated};
+    ghost use Rattle.lsys_forest.specs.Pairs.{AreMated, AreModulesUnless};
     ghost use Rattle.lsys_forest.specs.Loosened.{AreLoose};
     ghost use Rattle.lsys_forest.specs.Stocks.{nodes_of};
 
@@ -64,6 +66,7 @@ impl<A> Model for Forest<A> {
       ranked : AreRanked (nodes_of a.parts) a.parts.footings;
       linked : AreLinked (nodes_of a.parts) a.root a.parts.footings a.linked;
       mated : AreMated (nodes_of a.parts) a.root a.parts.footings a.mated;
+      branches : AreModulesUnless a.branches a.parts a.root;
       loose : AreLoose a.loose (nodes_of a.parts) a.root;
     } };
 }
@@ -89,6 +92,7 @@ impl<A: Kept> Forest<A> {
             root: NodeId(0),
             linked: 0,
             mated: 0,
+            branches: false,
             loose: Loose::Nobody,
             spare_nodes: 0,
             spare_notes: 0,
@@ -164,6 +168,7 @@ impl<A: Kept> Forest<A> {
             Some(above) => above.depth + 1,
             None => unreachable!(),
         };
+        self.branches = branches_with(self.branches, symbol);
         self.loose = loose_with(self.loose, &self.parts, parent);
         self.spare_nodes -= 1;
         self.spare_notes -= 1;
@@ -205,6 +210,7 @@ impl<A: Kept> Forest<A> {
         let kind = self.parts.kind(node);
         let depth = self.parts.depth(node);
         self.parts.set_symbol(node, symbol);
+        self.branches = branches_with(self.branches, symbol);
         self.mated = mated_still(self.mated, depth, kind, symbol);
     }
 
@@ -249,7 +255,13 @@ impl<A: Kept> Forest<A> {
     {
         let levels = level.saturating_add(1);
         self.linked = link_levels(&mut self.parts, self.root, self.linked, levels);
-        self.mated = mate_levels(&mut self.parts, self.root, self.mated, self.linked);
+        self.mated = find_mates(
+            &mut self.parts,
+            self.root,
+            self.branches,
+            self.mated,
+            self.linked,
+        );
     }
 
     /// On how many levels, from the first one on, the nodes are linked to their neighbours: those below them are what

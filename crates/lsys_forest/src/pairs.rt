@@ -1,21 +1,23 @@
 //! Mates of the brackets of linked levels.
-ghost use Rattle.std.specs.Prelude.{◌≡◌, ◌+◌, ◌≤◌, ◌<◌, ◌∷◌, [], Some, IsSome};
+ghost use Rattle.std.specs.Prelude.{◌≡◌, ◌+◌, ◌≤◌, ◌<◌, ◌∷◌, [], Some, IsSome, false};
 ghost use Rattle.lsys_spec.specs.Rows.{first_in};
-ghost use Rattle.lsys_level.specs.Spots.{Pop};
+ghost use Rattle.lsys_level.specs.Spots.{Pop, IsBracket};
+ghost use Rattle.lsys_level.specs.Places.{seen_in};
 ghost use Rattle.lsys_forest.specs.Stocks.{nodes_of, changes_of};
 ghost use Rattle.lsys_forest.specs.Groves.{IsRooted};
 ghost use Rattle.lsys_forest.specs.Ranks.{AreRanked, AreLinked, IsApartFrom};
-ghost use Rattle.lsys_forest.specs.Pairs.{AreMated, PairsIn, seen_at};
+ghost use Rattle.lsys_forest.specs.Pairs.{AreMated, AreModules, PairsIn, seen_at};
 ghost use Rattle.lsys_forest.specs.Rows.{level_nodes};
 
 use crate::kept::Kept;
 use crate::node::{NodeId, NodeKind};
 use crate::stock::Parts;
 use crate::walk::{Way, first_at, first_child};
+use lsys_module::Symbol;
 
 /// Finds the mates on the levels that are linked, where those on some from the first one on are found already, and answers on
 /// how many they are found then: on all of them that have nodes.
-pub(crate) fn mate_levels<A: Kept>(
+fn mate_levels<A: Kept>(
     parts: &mut Parts<A>,
     root: NodeId,
     mated: u32,
@@ -44,6 +46,37 @@ pub(crate) fn mate_levels<A: Kept>(
         at = first_child(parts, root, Some(first), level, linked, Way::Right);
     }
     level
+}
+
+/// The same, in no step where there are no branches.
+pub(crate) fn find_mates<A: Kept>(
+    parts: &mut Parts<A>,
+    root: NodeId,
+    branches: bool,
+    mated: u32,
+    linked: u32,
+) -> u32
+    requires sound { IsRooted root (changes_of parts.old) (nodes_of parts.old) }
+    requires ranked { AreRanked (nodes_of parts.old) parts.old.footings }
+    requires linked { AreLinked (nodes_of parts.old) root parts.old.footings linked }
+    requires mated { AreMated (nodes_of parts.old) root parts.old.footings mated }
+    requires branches { branches ≡ false → AreModules (nodes_of parts.old) root }
+    ensures same { parts.new ≡ record parts.old { footings = parts.new.footings } }
+    ensures ranked { AreRanked (nodes_of parts.new) parts.new.footings }
+    ensures linked { AreLinked (nodes_of parts.new) root parts.new.footings linked }
+    ensures mated { AreMated (nodes_of parts.new) root parts.new.footings result }
+{
+    if !branches {
+        return linked;
+    }
+    mate_levels(parts, root, mated, linked)
+}
+
+/// Whether there are branches once there is this symbol too.
+pub(crate) fn branches_with(branches: bool, symbol: &Symbol) -> bool
+    ensures { result ≡ false → (branches ≡ false) × (IsBracket (seen_in symbol.now) → ⊥) }
+{
+    branches || matches!(symbol, Symbol::Push | Symbol::Pop)
 }
 
 /// Finds the mates on the level with this number, which is linked. They are found on all levels before it, and `first` is its

@@ -19,6 +19,8 @@ use Rattle.lsys_forest.specs.Changes.{Missing}
 use Rattle.lsys_forest.proofs.LinkLemmas.{add_linked}
 use Rattle.lsys_forest.proofs.MatedLemmas.{add_mated}
 use Rattle.lsys_forest.specs.Loosened.{AreLoose}
+use Rattle.lsys_forest.proofs.ModuleLemmas.{modules_put}
+use Rattle.lsys_forest.specs.Pairs.{AreModules}
 use Rattle.lsys_forest.proofs.forest.Forest.add.Goals as goal
 
 pub loose_with-self-inside-requires : goal.loose_with-self-inside-requires
@@ -54,6 +56,12 @@ invariant_of-self g c =
       ranked = add_ranked i.root i.parts c.insert.new.self c.insert.result n (list_room (params_in c.args.symbol.now)) 0 (sound_now c.self.invariant.grove) refl c.insert.ensures.added c.self.invariant.ranked;
       linked = add_linked i.root i.parts c.insert.new.self c.insert.result i.linked n (list_room (params_in c.args.symbol.now)) 0 (sound_now c.self.invariant.grove) c.insert.ensures.vacant refl c.insert.ensures.added c.self.invariant.linked;
       mated = add_mated i.root i.parts c.insert.new.self c.insert.result i.mated n (list_room (params_in c.args.symbol.now)) 0 (sound_now c.self.invariant.grove) c.insert.ensures.vacant refl c.insert.ensures.added c.self.invariant.mated;
+      branches = λ none. (
+      let unless = c.branches_with-self-inside.ensures none in
+      let modules = c.self.invariant.branches unless.0 in
+      (subst (λ (m : Nodes g.row.A.Denot). AreModules m i.root) (sym c.insert.ensures.added.nodes) (modules_put (nodes_of i.parts) i.root c.insert.result n (λ other bracket. unless.1 bracket) modules.0),
+      subst (λ (m : Nodes g.row.A.Denot). AreModules m i.root) (sym (add_rested i.parts c.insert.new.self c.insert.result n (list_room (params_in c.args.symbol.now)) 0 c.insert.ensures.vacant c.insert.ensures.added)) modules.1)
+      );
       loose = subst (λ (m : Nodes g.row.A.Denot). AreLoose c.loose_with-self-inside.result m i.root) (sym c.insert.ensures.added.nodes) (c.loose_with-self-inside.ensures i.root c.insert.result n c.insert.ensures.vacant c.self.invariant.loose);
     }
 

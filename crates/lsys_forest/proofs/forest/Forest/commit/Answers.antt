@@ -10,6 +10,8 @@ use Rattle.lsys_forest.proofs.AnswerLemmas.{frees_by}
 use Rattle.lsys_forest.proofs.LinkLemmas.{swept_linked}
 use Rattle.lsys_forest.proofs.MatedLemmas.{swept_mated}
 use Rattle.lsys_forest.proofs.LooseLemmas.{fast_at_rest}
+use Rattle.lsys_forest.specs.Pairs.{AreModules}
+use Rattle.lsys_forest.specs.Changes.{undone}
 use Rattle.lsys_forest.proofs.forest.Forest.commit.Goals as goal
 
 pub sweep_all-requires-clause-made : goal.sweep_all-requires-clause-made
@@ -28,6 +30,12 @@ invariant_of-self g c =
       ranked = e.ranked;
       linked = swept_linked i.root (nodes_of i.parts) (nodes_of c.sweep_all.new.parts) i.parts.footings c.sweep_all.new.parts.footings i.linked sound (left_stood (nodes_of i.parts) i.root (nodes_of c.sweep_all.new.parts) e.swept) e.footings c.self.invariant.linked;
       mated = swept_mated i.root (nodes_of i.parts) (nodes_of c.sweep_all.new.parts) i.parts.footings c.sweep_all.new.parts.footings i.mated sound (left_stood (nodes_of i.parts) i.root (nodes_of c.sweep_all.new.parts) e.swept) e.footings c.self.invariant.mated;
+      branches = λ none. (
+      let modules = (c.self.invariant.branches none).0 in
+      let stood = left_stood (nodes_of i.parts) i.root (nodes_of c.sweep_all.new.parts) e.swept in
+      let now : AreModules (nodes_of c.sweep_all.new.parts) i.root = λ k n is other bracket. modules k n (stood k n is) other bracket in
+      (now, subst (λ cs. AreModules (undone cs (nodes_of c.sweep_all.new.parts)) i.root) (sym e.empty) now)
+      );
       loose = fast_at_rest (nodes_of c.sweep_all.new.parts) i.root sound;
     }
 

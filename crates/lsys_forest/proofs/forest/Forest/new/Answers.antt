@@ -7,6 +7,9 @@ use Rattle.lsys_forest.proofs.GroveLemmas.{IsSound-root}
 use Rattle.lsys_forest.proofs.SoundLemmas.{AreSound-rest}
 use Rattle.lsys_forest.proofs.RankLemmas.{ranked_root}
 use Rattle.lsys_forest.proofs.LooseLemmas.{fast_at_rest}
+use Rattle.lsys_forest.specs.Pairs.{AreModules}
+use Rattle.lsys_forest.specs.Changes.{undone}
+use Rattle.lsys_forest.proofs.ModuleLemmas.{root_alone}
 use Rattle.lsys_forest.proofs.forest.Forest.new.Goals as goal
 
 pub invariant_of-result : goal.invariant_of-result
@@ -25,6 +28,10 @@ invariant_of-result g c =
       ranked = ranked_root (nodes_of p) p.footings e.nodes;
       linked = λ t k way before after less whole. absurd (omega (arith, less));
       mated = λ t less. absurd (omega (arith, less));
+      branches = λ none. (
+      let now = root_alone (nodes_of p) e.nodes in
+      (now, subst (λ cs. AreModules (undone cs (nodes_of p)) 0) (sym e.changes) now)
+      );
       loose = fast_at_rest (nodes_of p) 0 sound;
     }
 
