@@ -108,6 +108,7 @@ impl<T: Copy> Region<T> {
     ///
     /// A free run with the list's room is used first, and then neither the vector nor the spare changes. Else the
     /// vector grows by the room, out of the spare. The run of the empty list takes no room, and is live in every region.
+    #[inline]
     pub fn place(&mut self, list: &[T]) -> Run
         requires { list_room list.now ≤ self.old.spare }
         ensures placed { list_of self.new result ≡ Some list.now }
@@ -120,9 +121,26 @@ impl<T: Copy> Region<T> {
     {
         // The type's invariant is known where a field is named.
         let _ = &self.spare;
-        let Some(last) = list.last() else {
-            return Run { part: Link::none() };
-        };
+        match list.last() {
+            Some(last) => self.place_some(list, *last),
+            None => Run { part: Link::none() },
+        }
+    }
+
+    // The same for a list that isn't empty: where its room is longer, it is filled up with `filler`.
+    fn place_some(&mut self, list: &[T], filler: T) -> Run
+        requires some { 0 < length list.now }
+        requires room { list_room list.now ≤ self.old.spare }
+        ensures placed { list_of self.new result ≡ Some list.now }
+        ensures fresh { IsFresh self.old result list.now }
+        ensures others { OthersStay self.old self.new result }
+        ensures spare { self.old.spare ≤ self.new.spare + list_room list.now }
+        ensures reuses { 0 < free_for self.old list.now → Reuses self.old self.new list.now }
+        ensures grows { free_for self.old list.now ≡ 0 → Grows self.old self.new list.now }
+        ensures other_rooms { OtherRoomsStay self.old self.new list.now }
+    {
+        // The type's invariant is known where a field is named.
+        let _ = &self.spare;
         let class = class_of(list.len());
         if let Some(number) = self.table.take(class.number, list.len()) {
             overwrite(&mut self.cells, self.table.span(number).start, list);
@@ -130,7 +148,7 @@ impl<T: Copy> Region<T> {
                 part: Link::to(number),
             };
         }
-        append(&mut self.cells, list, *last, class.room);
+        append(&mut self.cells, list, filler, class.room);
         self.spare -= class.room;
         let number = self.table.add(class, list.len());
         Run {
