@@ -1,17 +1,15 @@
--- Which nodes may be among no children, from change to change.
-use Rattle.std.proofs.Common.{◌≡◌, ◌≢◌, ◌⊎◌, ◌+◌, ◌≤◌, ℕ, List, [], ◌∷◌, ◌++◌, length, Some, None, refl, sym, ap, ◌∙◌, arith, inl, inr, subst}
+-- How many nodes may be among no children, from change to change.
+use Rattle.std.proofs.Common.{◌≡◌, ◌≢◌, ◌⊎◌, ◌+◌, ◌≤◌, ℕ, List, [], ◌∷◌, ◌++◌, length, Option, Some, None, refl, sym, ap, ◌∙◌, arith, inl, inr, subst}
 use Rattle.std.specs.Prelude.{IsSome, ◌==◌, true}
 use Rattle.std.proofs.lemmas.Bool.{cases_eq}
 use Rattle.std.proofs.lemmas.List.{length-append}
 use Rattle.std.proofs.lemmas.Option.{none-some, same_Some}
 use Rattle.lsys_spec.specs.Rows.{In, AreApart}
-use Rattle.lsys_forest.specs.declared.loose.Loose.{Loose}
-use Rattle.lsys_forest.specs.declared.loose.Loose.TheVariants.{Nobody, Under, Anybody}
 use Rattle.lsys_forest.specs.Nodes.{Node, Nodes, with_node, with_kids}
 use Rattle.lsys_forest.specs.Changes.{Change}
 use Rattle.lsys_forest.specs.Groves.{AreKids, IsRooted}
 use Rattle.lsys_forest.specs.Sweeps.{IsFast, IsSwept}
-use Rattle.lsys_forest.specs.Loosened.{AreFastBut, AreLooseUnder, AreLoose}
+use Rattle.lsys_forest.specs.Loosened.{AreFastBut, AreFewLoose, AreLoose, StaysWithOne}
 use Rattle.lsys_forest.proofs.RowLemmas.{In_append, In_left, In_right, In_split}
 use Rattle.lsys_forest.proofs.StockLemmas.{put_same, put_other}
 
@@ -38,6 +36,10 @@ covers (x ∷ xs) ys apart some few k h =
       | inr r ↦ elim r [ inl e ↦ inl e | inr t ↦ inr (rest (In_right k s.0 s.1 t)) ]
     ]
 
+none_in : (loose : List ℕ) (k : ℕ) → length loose ≤ 0 → In k loose → ⊥
+none_in [] k few h = h
+none_in (x ∷ loose) k few h = absurd (omega (arith, few))
+
 module _ {A : Type 0} where
   -- 1. a node is added
 
@@ -57,25 +59,18 @@ module _ {A : Type 0} where
     ]
   ]
 
-  pub under_one : (m : Nodes A) (root k parent : ℕ) (new p : Node A) → m k ≡ None → m parent ≡ Some p → p.kids ≡ [] → AreFastBut m root [] → AreLooseUnder (with_node m k (Some new)) root parent 1
-  under_one m root k parent new p vacant is bare fast = record {
-    loose = k ∷ [];
-    many = refl;
-    node = p;
-    is = put_other m k parent (Some new) (differs m k parent p vacant is) ∙ is;
-    bare = bare;
-    others = with_one m root k new [] vacant fast;
+  few_with_one : (m : Nodes A) (root k count : ℕ) (new : Node A) → m k ≡ None → AreFewLoose m root count → AreFewLoose (with_node m k (Some new)) root (count + 1)
+  few_with_one m root k count new vacant few = record {
+    loose = k ∷ few.loose;
+    few = omega (arith, few.few);
+    others = with_one m root k new few.loose vacant few.others;
   }
 
-  pub under_more : (m : Nodes A) (root k parent count : ℕ) (new : Node A) → m k ≡ None → AreLooseUnder m root parent count → AreLooseUnder (with_node m k (Some new)) root parent (count + 1)
-  under_more m root k parent count new vacant under = record {
-    loose = k ∷ under.loose;
-    many = omega (arith, under.many);
-    node = under.node;
-    is = put_other m k parent (Some new) (differs m k parent under.node vacant under.is) ∙ under.is;
-    bare = under.bare;
-    others = with_one m root k new under.loose vacant under.others;
-  }
+  pub loose_with_one : (old new : Option ℕ) (m : Nodes A) (root k : ℕ) (n : Node A) → StaysWithOne old new → m k ≡ None → AreLoose old m root → AreLoose new (with_node m k (Some n)) root
+  loose_with_one old None m root k n stays vacant loose = tt
+  loose_with_one old (Some count) m root k n stays vacant loose =
+      subst (λ c. AreLoose (Some c) (with_node m k (Some n)) root) (sym stays.2)
+      (few_with_one m root k stays.0 n vacant (subst (λ o. AreLoose o m root) stays.1 loose))
 
   -- 2. a node becomes another one, of the same parent
 
@@ -109,55 +104,34 @@ module _ {A : Type 0} where
         | inr h ↦ inr h
       ]
 
-  under_set : (m : Nodes A) (root k parent count : ℕ) (old new : Node A) → m k ≡ Some old → new.parent ≡ old.parent → new.kids ≡ old.kids → AreLooseUnder m root parent count → AreLooseUnder (with_node m k (Some new)) root parent count
-  under_set m root k parent count old new is same kids under =
-      let others = fast_set m root k old new under.loose is same (λ j. subst (In j) (sym kids)) under.others in
-      elim (cases_eq parent k) [
-        | inl e ↦ record {
-          loose = under.loose;
-          many = under.many;
-          node = new;
-          is = put_same m k parent (Some new) e;
-          bare = kids ∙ ap (λ (x : Node A). x.kids) (same_Some old under.node (sym is ∙ ap m (sym e) ∙ under.is)) ∙ under.bare;
-          others = others;
-        }
-        | inr ne ↦ record {
-          loose = under.loose;
-          many = under.many;
-          node = under.node;
-          is = put_other m k parent (Some new) ne ∙ under.is;
-          bare = under.bare;
-          others = others;
-        }
-      ]
-
   -- its symbol, its key or its answer
-  pub loose_set : (loose : Loose) (m : Nodes A) (root k : ℕ) (old new : Node A) → m k ≡ Some old → new.parent ≡ old.parent → new.kids ≡ old.kids → AreLoose loose m root → AreLoose loose (with_node m k (Some new)) root
-  loose_set Nobody m root k old new is same kids fast = fast_set m root k old new [] is same (λ j. subst (In j) (sym kids)) fast
-  loose_set (Under parent count) m root k old new is same kids under = under_set m root k parent count old new is same kids under
-  loose_set Anybody m root k old new is same kids any = tt
+  pub loose_set : (loose : Option ℕ) (m : Nodes A) (root k : ℕ) (old new : Node A) → m k ≡ Some old → new.parent ≡ old.parent → new.kids ≡ old.kids → AreLoose loose m root → AreLoose loose (with_node m k (Some new)) root
+  loose_set None m root k old new is same kids loose = tt
+  loose_set (Some count) m root k old new is same kids few = record {
+    loose = few.loose;
+    few = few.few;
+    others = fast_set m root k old new few.loose is same (λ j. subst (In j) (sym kids)) few.others;
+  }
 
   -- 3. children are set
 
-  pub none_beside : (m : Nodes A) (root node : ℕ) (n : Node A) (kids : List ℕ) → m node ≡ Some n → n.kids ≡ [] → AreFastBut m root [] → AreFastBut (with_node m node (Some (with_kids kids n))) root []
-  none_beside m root node n kids is bare fast = fast_set m root node n (with_kids kids n) [] is refl (λ j h. absurd (subst (In j) bare h)) fast
-
-  -- as many as were loose, of a node without children: so it is these that were loose
-  pub all_beside : (m : Nodes A) (root node : ℕ) (n : Node A) (kids : List ℕ) → m node ≡ Some n → AreKids m root node kids → AreLooseUnder m root node (length kids) → AreFastBut (with_node m node (Some (with_kids kids n))) root []
-  all_beside m root node n kids is are under = λ j o there other.
-      let s = stood m node j n (with_kids kids n) o is refl there in
-      inl (elim (under.others j s.0 s.1 other) [
-        | inl f ↦ stays_fast m node j n (with_kids kids n) o s.0 is s.2 (λ h. absurd (subst (In j) bare h)) f
-        | inr h ↦ own j o s.0 s.1 s.2 (covers kids under.loose are.apart theirs (omega (arith, under.many)) j h)
-      ])
+  -- no fewer than were loose, of a node without children: so it is these that were loose
+  pub all_beside : (m : Nodes A) (root node count : ℕ) (n : Node A) (kids : List ℕ) → m node ≡ Some n → n.kids ≡ [] → count ≤ length kids → AreKids m root node kids → AreFewLoose m root count → AreFewLoose (with_node m node (Some (with_kids kids n))) root 0
+  all_beside m root node count n kids is bare many are few = record {
+    loose = [];
+    few = omega arith;
+    others = λ j o there other.
+        let s = stood m node j n (with_kids kids n) o is refl there in
+        inl (elim (few.others j s.0 s.1 other) [
+          | inl f ↦ stays_fast m node j n (with_kids kids n) o s.0 is s.2 (λ h. absurd (subst (In j) bare h)) f
+          | inr h ↦ own j o s.0 s.1 s.2 (covers kids few.loose are.apart theirs (omega (arith, few.few, many)) j h)
+        ]);
+  }
     where
-      bare : n.kids ≡ []
-      bare = ap (λ (x : Node A). x.kids) (same_Some n under.node (sym is ∙ under.is)) ∙ under.bare
-
-      theirs : (k : ℕ) → In k kids → In k under.loose
+      theirs : (k : ℕ) → In k kids → In k few.loose
       theirs k h =
           let x = are.under k h in
-          elim (under.others k x.node x.is x.other) [
+          elim (few.others k x.node x.is x.other) [
             | inl f ↦
                 let p : f.parent ≡ n = same_Some f.parent n (sym f.is ∙ ap m x.parent_is ∙ is) in
                 absurd (subst (In k) (ap (λ (y : Node A). y.kids) p ∙ bare) f.among)
@@ -172,18 +146,22 @@ module _ {A : Type 0} where
 
   -- 4. at rest, and what a commit has to do then
 
-  pub fast_at_rest : (m : Nodes A) (root : ℕ) → IsRooted root [] m → AreFastBut m root []
-  fast_at_rest m root sound = λ k n is other.
-      let h = sound.held k n is other in
-      elim h.linked [
-        | inl among ↦ inl (record { parent = h.parent; is = h.is; among = among })
-        | inr named ↦ absurd named
-      ]
+  pub none_at_rest : (m : Nodes A) (root : ℕ) → IsRooted root [] m → AreFewLoose m root 0
+  none_at_rest m root sound = record {
+    loose = [];
+    few = omega arith;
+    others = λ k n is other.
+        let h = sound.held k n is other in
+        elim h.linked [
+          | inl among ↦ inl (record { parent = h.parent; is = h.is; among = among })
+          | inr named ↦ absurd named
+        ];
+  }
 
-  -- where all are fast, nothing has to be removed
-  pub IsSwept-fast : (root : ℕ) (changes : List (Change A)) (m : Nodes A) → IsRooted root changes m → AreFastBut m root [] → IsSwept m root m [] []
-  IsSwept-fast root changes m sound fast = record {
+  -- where none is loose, nothing has to be removed
+  pub IsSwept-fast : (root : ℕ) (changes : List (Change A)) (m : Nodes A) → IsRooted root changes m → AreFewLoose m root 0 → IsSwept m root m [] []
+  IsSwept-fast root changes m sound none = record {
     same = λ k. inl refl;
-    cover = λ k n is other. elim (fast k n is other) [ inl f ↦ inl f | inr none ↦ absurd none ];
+    cover = λ k n is other. elim (none.others k n is other) [ inl f ↦ inl f | inr h ↦ absurd (none_in none.loose k none.few h) ];
     kids = λ p k n is among. let u = (sound.own p n is).under k among in subst IsSome (sym u.is) refl;
   }

@@ -19,7 +19,7 @@ ghost use Rattle.lsys_forest.specs.Neighbours.{IsNextIn, IsChildFrom, IsFirstBel
 use crate::around::{Around, linked_around};
 use crate::kept::Kept;
 use crate::link::link_levels;
-use crate::loose::{Loose, loose_beside, loose_with};
+use crate::loose::{loose_beside, loose_with_one};
 use crate::node::{NodeId, NodeKind};
 use crate::pairs::{branches_with, find_mates};
 use crate::seen::is_seen;
@@ -44,8 +44,8 @@ pub struct Forest<A> {
     mated: u32,
     /// Whether there are brackets among the nodes, or were before.
     branches: bool,
-    /// Which nodes may be among no children.
-    loose: Loose,
+    /// At most how many nodes, but for the root, are among no children; none where it isn't known.
+    loose: Option<usize>,
     spare_nodes: usize,
     spare_notes: usize,
 }
@@ -93,7 +93,7 @@ impl<A: Kept> Forest<A> {
             linked: 0,
             mated: 0,
             branches: false,
-            loose: Loose::Nobody,
+            loose: Some(0),
             spare_nodes: 0,
             spare_notes: 0,
         })
@@ -169,7 +169,7 @@ impl<A: Kept> Forest<A> {
             None => unreachable!(),
         };
         self.branches = branches_with(self.branches, symbol);
-        self.loose = loose_with(self.loose, &self.parts, parent);
+        self.loose = loose_with_one(self.loose);
         self.spare_nodes -= 1;
         self.spare_notes -= 1;
         self.parts.insert(parent, code, count, depth, symbol, key)
@@ -399,7 +399,7 @@ impl<A: Kept> Forest<A> {
     {
         undo_all(&mut self.parts, self.root, &mut self.linked, store);
         self.mated = 0;
-        self.loose = Loose::Nobody;
+        self.loose = Some(0);
     }
 
     /// Keeps the forest as it is, as a rest: the nodes that are reached from the root stay node for node, and all others
@@ -416,7 +416,7 @@ impl<A: Kept> Forest<A> {
         ensures still { LiveApart A.run_at A.Holds store.new (kept_in self.new) }
     {
         sweep_all(&mut self.parts, self.root, self.loose, store);
-        self.loose = Loose::Nobody;
+        self.loose = Some(0);
     }
 }
 

@@ -1,6 +1,5 @@
-//! Which nodes may be among no children.
-ghost use Rattle.std.specs.Prelude.{◌≡◌, ◌⊎◌, ◌+◌, IsSome, IsTrue};
-ghost use Rattle.lsys_forest.specs.declared.loose.Loose.TheVariants.{Nobody, Under, Anybody};
+//! How many nodes may be among no children.
+ghost use Rattle.std.specs.Prelude.{◌≡◌, IsSome, IsTrue, Some};
 ghost use Rattle.lsys_forest.specs.Stocks.{nodes_of};
 ghost use Rattle.lsys_forest.specs.Loosened.{StaysWithOne, StaysWithKids};
 
@@ -8,64 +7,49 @@ use crate::kept::Kept;
 use crate::node::NodeId;
 use crate::stock::Parts;
 
-/// Which nodes of a forest, but for the root, may be missing among the children of their parents. A commit looks for these alone.
-#[derive(Clone, Copy, Drop)]
-pub(crate) enum Loose {
-    /// None.
-    Nobody,
-    /// So many. The first of them was added under this node, which has no children.
-    Under { parent: NodeId, count: usize },
-    /// Any.
-    Anybody,
-}
-
-/// Which nodes may be loose once one more was added under this node.
-pub(crate) fn loose_with<A: Kept>(loose: Loose, parts: &Parts<A>, parent: NodeId) -> Loose
-    requires { IsSome (nodes_of parts.now parent) }
-    ensures { StaysWithOne loose result (nodes_of parts.now) parent }
+/// At most how many nodes may be loose, once one more was added; none where it isn't known.
+pub(crate) fn loose_with_one(loose: Option<usize>) -> Option<usize>
+    ensures { StaysWithOne loose result }
 {
-    match loose {
-        Loose::Nobody if parts.kids(parent).is_empty() => Loose::Under { parent, count: 1 },
-        Loose::Under { parent, count } => one_more(parent, count),
-        _ => Loose::Anybody,
-    }
+    loose?.checked_add(1)
 }
 
-/// One more under a node, where so many were there.
-fn one_more(parent: NodeId, count: usize) -> Loose
-    ensures { (result ≡ Under parent (count + 1)) ⊎ (result ≡ Anybody) }
-{
-    match count.checked_add(1) {
-        Some(count) => Loose::Under { parent, count },
-        None => Loose::Anybody,
-    }
-}
-
-/// Which nodes may be loose once these are the children of a node.
+/// The same, once these are the children of a node: where it had none before, and there are as many of them, no others were loose.
 pub(crate) fn loose_beside<A: Kept>(
-    loose: Loose,
+    loose: Option<usize>,
     parts: &Parts<A>,
     node: NodeId,
     kids: &[NodeId],
-) -> Loose
+) -> Option<usize>
     requires { IsSome (nodes_of parts.now node) }
     ensures { StaysWithKids loose result (nodes_of parts.now) node kids.now }
 {
     if are_all(loose, parts, node, kids) {
-        Loose::Nobody
+        Some(0)
     } else {
-        Loose::Anybody
+        None
     }
 }
 
-/// Whether these children of a node are known to be all that are loose.
-fn are_all<A: Kept>(loose: Loose, parts: &Parts<A>, node: NodeId, kids: &[NodeId]) -> bool
+/// Whether it is known that none is loose.
+pub(crate) fn is_none(loose: Option<usize>) -> bool
+    ensures { IsTrue result → loose ≡ Some 0 }
+{
+    matches!(loose, Some(0))
+}
+
+/// Whether these children of a node are known to be all that were loose.
+fn are_all<A: Kept>(
+    loose: Option<usize>,
+    parts: &Parts<A>,
+    node: NodeId,
+    kids: &[NodeId],
+) -> bool
     requires { IsSome (nodes_of parts.now node) }
-    ensures { IsTrue result → StaysWithKids loose Nobody (nodes_of parts.now) node kids.now }
+    ensures { IsTrue result → StaysWithKids loose (Some 0) (nodes_of parts.now) node kids.now }
 {
     match loose {
-        Loose::Nobody => parts.kids(node).is_empty(),
-        Loose::Under { parent, count } => parent == node && count == kids.len(),
-        Loose::Anybody => false,
+        Some(count) => count <= kids.len() && parts.kids(node).is_empty(),
+        None => false,
     }
 }

@@ -444,6 +444,7 @@ impl<A: Kept> Parts<A> {
 
     /// Takes up the last change, if there is one, and answers which nodes it names. An answer that it kept is released.
     /// It takes no memory.
+    #[inline]
     pub(crate) fn take_last(&mut self, store: &mut A::Store) -> Option<Look>
         requires made { ForLastChange self.old (λ c. Lives A.run_at A.Holds store.old (old_answer c)) }
         ensures taken { IfSome result (TakesOneUp A.run_at A.Holds self.old self.new store.old store.new) }

@@ -12,7 +12,7 @@ ghost use Rattle.lsys_forest.specs.Loosened.{AreLoose};
 ghost use Rattle.lsys_forest.specs.LastChange.{answers_in, StoreFollows, ForLastChange, StaysUnchanged, ForgetsOne};
 
 use crate::kept::Kept;
-use crate::loose::Loose;
+use crate::loose::is_none;
 use crate::node::NodeId;
 use crate::note::Look;
 use crate::stock::Parts;
@@ -96,11 +96,11 @@ fn sweep_looked<A: Kept>(parts: &mut Parts<A>, root: NodeId, look: Look, store: 
     }
 }
 
-/// Removes each node that is not reached from the root. Where none is loose, none is looked at.
+/// Removes each node that is not reached from the root, where at most so many are among no children. Where none is, none is looked at.
 pub(crate) fn sweep_all<A: Kept>(
     parts: &mut Parts<A>,
     root: NodeId,
-    loose: Loose,
+    loose: Option<usize>,
     store: &mut A::Store,
 )
     requires places { live_slots parts.old.slots ≤ parts.old.note_room }
@@ -117,9 +117,10 @@ pub(crate) fn sweep_all<A: Kept>(
     ensures made { LiveApart A.run_at A.Holds store.new (answers_in parts.new) }
     ensures freed { StoreFollows A.run_at A.Holds parts.old store.old parts.new store.new }
 {
-    match loose {
-        Loose::Nobody => forget_all(parts, store),
-        _ => sweep_named(parts, root, store),
+    if is_none(loose) {
+        forget_all(parts, store);
+    } else {
+        sweep_named(parts, root, store);
     }
 }
 
@@ -139,6 +140,7 @@ fn forget_all<A: Kept>(parts: &mut Parts<A>, store: &mut A::Store)
 }
 
 /// Takes up the last change, and tells whether there was one.
+#[inline]
 fn forget_one<A: Kept>(parts: &mut Parts<A>, store: &mut A::Store) -> bool
     requires { ForLastChange parts.old (λ c. Lives A.run_at A.Holds store.old (old_answer c)) }
     ensures taken { IsTrue result → ForgetsOne A.run_at A.Holds parts.old parts.new store.old store.new }

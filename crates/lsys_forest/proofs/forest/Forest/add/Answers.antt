@@ -19,12 +19,10 @@ use Rattle.lsys_forest.specs.Changes.{Missing}
 use Rattle.lsys_forest.proofs.LinkLemmas.{add_linked}
 use Rattle.lsys_forest.proofs.MatedLemmas.{add_mated}
 use Rattle.lsys_forest.specs.Loosened.{AreLoose}
+use Rattle.lsys_forest.proofs.LooseLemmas.{loose_with_one}
 use Rattle.lsys_forest.proofs.ModuleLemmas.{modules_put}
 use Rattle.lsys_forest.specs.Pairs.{AreModules}
 use Rattle.lsys_forest.proofs.forest.Forest.add.Goals as goal
-
-pub loose_with-self-inside-requires : goal.loose_with-self-inside-requires
-loose_with-self-inside-requires g c = subst (λ (f : Grove g.row.A.Denot). IsSome (now_of f c.args.parent)) (sym c.self.view_is) c.requires.parent
 
 pub overflow_add-depth : goal.overflow_add-depth
 overflow_add-depth g c =
@@ -62,7 +60,7 @@ invariant_of-self g c =
       (subst (λ (m : Nodes g.row.A.Denot). AreModules m i.root) (sym c.insert.ensures.added.nodes) (modules_put (nodes_of i.parts) i.root c.insert.result n (λ other bracket. unless.1 bracket) modules.0),
       subst (λ (m : Nodes g.row.A.Denot). AreModules m i.root) (sym (add_rested i.parts c.insert.new.self c.insert.result n (list_room (params_in c.args.symbol.now)) 0 c.insert.ensures.vacant c.insert.ensures.added)) modules.1)
       );
-      loose = subst (λ (m : Nodes g.row.A.Denot). AreLoose c.loose_with-self-inside.result m i.root) (sym c.insert.ensures.added.nodes) (c.loose_with-self-inside.ensures i.root c.insert.result n c.insert.ensures.vacant c.self.invariant.loose);
+      loose = subst (λ (m : Nodes g.row.A.Denot). AreLoose c.loose_with_one-self-inside.result m i.root) (sym c.insert.ensures.added.nodes) (loose_with_one i.loose c.loose_with_one-self-inside.result (nodes_of i.parts) i.root c.insert.result n c.loose_with_one-self-inside.ensures c.insert.ensures.vacant c.self.invariant.loose);
     }
 
 pub returns-clause-added : goal.returns-clause-added

@@ -9,7 +9,7 @@ use Rattle.lsys_forest.proofs.GroveLemmas.{sound_now, IsGrove-rest}
 use Rattle.lsys_forest.proofs.AnswerLemmas.{frees_by}
 use Rattle.lsys_forest.proofs.LinkLemmas.{swept_linked}
 use Rattle.lsys_forest.proofs.MatedLemmas.{swept_mated}
-use Rattle.lsys_forest.proofs.LooseLemmas.{fast_at_rest}
+use Rattle.lsys_forest.proofs.LooseLemmas.{none_at_rest}
 use Rattle.lsys_forest.specs.Pairs.{AreModules}
 use Rattle.lsys_forest.specs.Changes.{undone}
 use Rattle.lsys_forest.proofs.forest.Forest.commit.Goals as goal
@@ -36,7 +36,7 @@ invariant_of-self g c =
       let now : AreModules (nodes_of c.sweep_all.new.parts) i.root = λ k n is other bracket. modules k n (stood k n is) other bracket in
       (now, subst (λ cs. AreModules (undone cs (nodes_of c.sweep_all.new.parts)) i.root) (sym e.empty) now)
       );
-      loose = fast_at_rest (nodes_of c.sweep_all.new.parts) i.root sound;
+      loose = none_at_rest (nodes_of c.sweep_all.new.parts) i.root sound;
     }
 
 pub returns-clause-stay : goal.returns-clause-stay

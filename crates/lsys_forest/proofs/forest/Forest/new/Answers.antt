@@ -6,7 +6,7 @@ use Rattle.lsys_forest.proofs.StockLemmas.{put_same, put_other}
 use Rattle.lsys_forest.proofs.GroveLemmas.{IsSound-root}
 use Rattle.lsys_forest.proofs.SoundLemmas.{AreSound-rest}
 use Rattle.lsys_forest.proofs.RankLemmas.{ranked_root}
-use Rattle.lsys_forest.proofs.LooseLemmas.{fast_at_rest}
+use Rattle.lsys_forest.proofs.LooseLemmas.{none_at_rest}
 use Rattle.lsys_forest.specs.Pairs.{AreModules}
 use Rattle.lsys_forest.specs.Changes.{undone}
 use Rattle.lsys_forest.proofs.ModuleLemmas.{root_alone}
@@ -32,7 +32,7 @@ invariant_of-result g c =
       let now = root_alone (nodes_of p) e.nodes in
       (now, subst (λ cs. AreModules (undone cs (nodes_of p)) 0) (sym e.changes) now)
       );
-      loose = fast_at_rest (nodes_of p) 0 sound;
+      loose = none_at_rest (nodes_of p) 0 sound;
     }
 
 pub returns-clause-root : goal.returns-clause-root

@@ -5,7 +5,7 @@ use Rattle.lsys_forest.specs.Answers.{answers, kept_by, LiveApart, FreesAllBut}
 use Rattle.lsys_forest.specs.Groves.{Grove, rest_of, kept_in, Spends, IsRooted}
 use Rattle.lsys_forest.proofs.GroveLemmas.{sound_rest, IsGrove-rest}
 use Rattle.lsys_forest.proofs.AnswerLemmas.{frees_by}
-use Rattle.lsys_forest.proofs.LooseLemmas.{fast_at_rest}
+use Rattle.lsys_forest.proofs.LooseLemmas.{none_at_rest}
 use Rattle.lsys_forest.specs.Pairs.{AreModules}
 use Rattle.lsys_forest.specs.Changes.{undone}
 use Rattle.lsys_forest.proofs.forest.Forest.rollback.Goals as goal
@@ -32,7 +32,7 @@ invariant_of-self g c =
       let now = subst (λ (m : Nodes g.row.A.Denot). AreModules m i.root) (sym e.nodes) modules in
       (now, subst (λ cs. AreModules (undone cs (nodes_of c.undo_all.new.parts)) i.root) (sym e.empty) now)
       );
-      loose = fast_at_rest (nodes_of c.undo_all.new.parts) i.root (subst (IsRooted i.root []) (sym e.nodes) (sound_rest c.self.invariant.grove));
+      loose = none_at_rest (nodes_of c.undo_all.new.parts) i.root (subst (IsRooted i.root []) (sym e.nodes) (sound_rest c.self.invariant.grove));
     }
 
 pub returns-clause-spares : goal.returns-clause-spares
