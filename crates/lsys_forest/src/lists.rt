@@ -130,6 +130,7 @@ impl<T: Copy> Lists<T> {
     }
 
     /// Frees the last of the past lists. It takes no memory.
+    #[inline(never)]
     pub(crate) fn drop_past(&mut self)
         requires owned { (now : List (Option ℕ)) × IsOwner self.old now }
         ensures owned { (now : List (Option ℕ)) → IsOwner self.old now → IsOwner self.new now }
@@ -141,6 +142,7 @@ impl<T: Copy> Lists<T> {
     }
 
     /// Takes the last of the past lists in hand, and frees the one that was there. It takes no memory.
+    #[inline(never)]
     pub(crate) fn take_up(&mut self)
         requires owned { (now : List (Option ℕ)) × IsOwner self.old now }
         ensures owned { (now : List (Option ℕ)) → IsOwner self.old now → IsOwner self.new now }

@@ -36,6 +36,7 @@ impl<L: Ledger> Kept for KeptAnswer<L> {
 
     ghost Holds = { holds };
 
+    #[inline(never)]
     fn release(self, store: &mut AnswerStore) {
         self.answer.release(store);
     }

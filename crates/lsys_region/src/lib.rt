@@ -128,6 +128,7 @@ impl<T: Copy> Region<T> {
     }
 
     // The same for a list that isn't empty: where its room is longer, it is filled up with `filler`.
+    #[inline(never)]
     fn place_some(&mut self, list: &[T], filler: T) -> Run
         requires some { 0 < length list.now }
         requires room { list_room list.now ≤ self.old.spare }
