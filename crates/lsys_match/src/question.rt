@@ -58,8 +58,10 @@ pub fn ask<'a, W: LevelView, L: Ledger, V: Ledger>(
     ensures asked { asked.new ≡ asked.old + news result }
     ensures store { KeepsStore store.old store.new (option_map (λ a. a.now) old.entry) result }
 {
-    let mut asker = Asker::new(alloc, system, level);
-    match asker.ask(alloc, store, view, spot, old, asked, visited) {
+    let mut asker = Asker::with_scratch(system, level, store.lend());
+    let told = asker.ask(alloc, store, view, spot, old, asked, visited);
+    store.take_back(asker.bound);
+    match told {
         Ok(Some(answer)) => Ok(answer),
         Ok(None) => unreachable!(),
         Err(refusal) => Err(refusal),

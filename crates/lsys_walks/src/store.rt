@@ -8,6 +8,7 @@ use crate::entry::Entry;
 use lsys_region::{Region, Run};
 use std::alloc::{AllocError, Global};
 use std::marker::Model;
+use std::mem;
 
 /// A trace that is kept: the run of its entries, and that of their parameters.
 #[derive(Drop)]
@@ -16,11 +17,14 @@ pub struct TraceRuns {
     pub values: Run,
 }
 
-/// Where answers are kept: the entries of traces in one region, the parameters of the modules that were read in another.
+/// Where answers are kept: the entries of traces in one region, the parameters of the modules that were read in another. It lends a
+/// list for what is worked out for an answer.
 #[derive(Drop)]
 pub struct AnswerStore {
     traces: Region<Entry>,
     values: Region<i64>,
+    /// What is in it means nothing.
+    scratch: Vec<i64>,
 }
 
 impl Model for AnswerStore {
@@ -40,7 +44,23 @@ impl AnswerStore {
         AnswerStore {
             traces: Region::new(alloc),
             values: Region::new(alloc),
+            scratch: Vec::new(alloc),
         }
+    }
+
+    /// Lends a list for values, which has the room that it once took. Takes no memory.
+    pub fn lend(&mut self) -> Vec<i64>
+        ensures { self.new ≡ self.old }
+    {
+        let none = Vec::new(*self.scratch.allocator());
+        mem::replace(&mut self.scratch, none)
+    }
+
+    /// Takes a list back, whatever is in it.
+    pub fn take_back(&mut self, scratch: Vec<i64>)
+        ensures { self.new ≡ self.old }
+    {
+        self.scratch = scratch;
     }
 
     /// Makes room for traces whose rooms are together at most `entries`, and for lists of parameters whose rooms are
