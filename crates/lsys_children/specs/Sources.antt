@@ -1,5 +1,5 @@
 -- Where the symbols stand that are wanted of a parent.
-use Rattle.std.specs.Prelude.{◌≡◌, List, [], ◌∷◌, Some}
+use Rattle.std.specs.Prelude.{◌≡◌, ℕ, List, [], ◌∷◌, Some}
 use Rattle.lsys_module.specs.declared.symbol.Symbol.{Symbol}
 use Rattle.lsys_module.specs.Views.{string_of}
 use Rattle.lsys_bodies.specs.declared.body.Body.{Body}
@@ -23,6 +23,10 @@ IsBodyFor f p b =
 abbrev pub IsWantedAlone : Grove Kept → Parent → Type 0
 IsWantedAlone f p =
     wants (now_of f) p ≡ itself (spot_in p.node (now_of f p.node)).seen ∷ []
+
+-- these are the symbol of a node alone
+abbrev pub AreItself : Grove Kept → ℕ → List Symbol → Type 0
+AreItself f k symbols = itself (spot_in k (now_of f k)).seen ∷ [] ≡ string_of symbols
 
 -- it is; or they stand in this body
 abbrev pub TellsSource : Grove Kept → Parent → SymbolSource → Type 0

@@ -16,6 +16,7 @@ use crate::need::{Need, need_of};
 use crate::number::Number;
 use crate::renew::{bear_all, renew_all};
 use lsys_forest::{Forest, Kept, NodeId};
+use lsys_module::Symbol;
 use std::alloc::{AllocError, Global};
 use std::collections::HashMap;
 use std::marker::Model;
@@ -30,6 +31,8 @@ pub struct Brood {
     found: Vec<Option<NodeId>>,
     gone: Vec<NodeId>,
     nodes: Vec<NodeId>,
+    /// What is wanted of a parent, where it is copied. What is left in it means nothing.
+    pub(crate) symbols: Vec<Symbol>,
 }
 
 impl Model for Brood {
@@ -50,6 +53,7 @@ impl Brood {
             found: Vec::new(alloc),
             gone: Vec::new(alloc),
             nodes: Vec::new(alloc),
+            symbols: Vec::new(alloc),
         }
     }
 

@@ -8,6 +8,7 @@ mod births;
 mod brood;
 mod changes;
 mod child;
+mod copied;
 mod count;
 mod few;
 mod first;

@@ -13,11 +13,13 @@ ghost use Rattle.lsys_children.specs.Sources.{IsBodyFor, IsWantedAlone};
 use crate::births::bear_by_place;
 use crate::brood::Brood;
 use crate::changes::Changes;
+use crate::copied::copy_wanted;
 use crate::parent::{Parent, fill_for};
 use crate::source::{SymbolSource, source_of};
 use crate::wanted::{Wanted, symbol_seen};
 use lsys_bodies::SharedBody;
 use lsys_forest::Forest;
+use lsys_module::Symbol;
 use lsys_reading::Lineage;
 use lsys_reads::KeptAnswer;
 use std::alloc::AllocError;
@@ -82,14 +84,14 @@ fn make_one<L: Ledger>(
     let node = parent.node;
     match numbering {
         Lineage::Places if forest.children(node).is_empty() => {
-            make_anew(forest, parent, wanted, brood, changes)
+            make_anew(forest, parent, &mut brood.symbols, changes)
         }
         _ => make_listed(forest, numbering, parent, wanted, brood, changes),
     }
 }
 
-/// Makes the children of one parent that has none, where they are numbered by their places: straight from what replaces it,
-/// where that can be read while the forest changes.
+/// Makes the children of one parent that has none, where they are numbered by their places: straight from what replaces it. Where
+/// that can't be read while the forest changes it is copied.
 ///
 /// # Errors
 ///
@@ -97,8 +99,7 @@ fn make_one<L: Ledger>(
 fn make_anew<L: Ledger>(
     forest: &mut Forest<KeptAnswer<L>>,
     parent: Parent,
-    wanted: &mut Wanted,
-    brood: &mut Brood,
+    symbols: &mut Vec<Symbol>,
     changes: &mut Changes,
 ) -> Result<(), AllocError>
     requires sound { IsRooted forest.old.root (changes_in forest.old) (now_of forest.old) }
@@ -122,7 +123,7 @@ fn make_anew<L: Ledger>(
             bear_body(forest, parent, body, changes);
             Ok(())
         }
-        SymbolSource::Other => make_listed(forest, Lineage::Places, parent, wanted, brood, changes),
+        SymbolSource::Other => bear_copied(forest, parent, symbols, changes),
     }
 }
 
@@ -197,4 +198,32 @@ fn bear_body<L: Ledger>(
         Some(symbols) => bear_by_place(forest, node, symbols.symbols(), changes),
         None => unreachable!(),
     }
+}
+
+/// Makes the children of one parent that has none, where they are numbered by their places, from a copy of what is wanted of it.
+///
+/// # Errors
+///
+/// Out of memory. The forest stays then.
+fn bear_copied<L: Ledger>(
+    forest: &mut Forest<KeptAnswer<L>>,
+    parent: Parent,
+    symbols: &mut Vec<Symbol>,
+    changes: &mut Changes,
+) -> Result<(), AllocError>
+    requires sound { IsRooted forest.old.root (changes_in forest.old) (now_of forest.old) }
+    requires lives { IsLive forest.old parent.node }
+    requires bare { HasNoKids forest.old parent.node }
+    requires short { length (kept_successors (now_of forest.old) parent.node) ≤ number_base }
+    requires room { HasRoomFor forest.old changes.old (need_of_one Places forest.old parent) }
+    ensures renewed { RenewsIfOk result Places forest.old forest.new parent changes.old changes.new }
+    ensures rest { rest_of forest.new ≡ rest_of forest.old }
+    ensures root { forest.new.root ≡ forest.old.root }
+    ensures kept { kept_in forest.new ≡ kept_in forest.old }
+    ensures refused { OnErr result (forest.new ≡ forest.old) }
+{
+    let node = parent.node;
+    copy_wanted(forest, parent, symbols)?;
+    bear_by_place(forest, node, symbols, changes);
+    Ok(())
 }

@@ -8,7 +8,7 @@ use Rattle.lsys_forest.specs.declared.note.Was.{Was}
 use Rattle.lsys_forest.specs.declared.note.Was.TheVariants as was
 use Rattle.lsys_forest.specs.Shelves.{Shelf, past_room}
 use Rattle.lsys_forest.specs.Slots.{slot_at, answer_before}
-use Rattle.lsys_forest.specs.Nodes.{Nodes, change, seen_as}
+use Rattle.lsys_forest.specs.Nodes.{Nodes, seen_as}
 use Rattle.lsys_forest.specs.Changes.{KeepsKids, Previous, Missing, OldSeen, OldKey, OldKids, OldAnswer, Change}
 use Rattle.lsys_forest.specs.Answers.{answer_of, old_answer}
 use Rattle.lsys_forest.specs.Stocks.{row_at, first_of, before_of, params_left, kids_left, node_of, changes_told, param_lists, kid_lists, param_count, kid_count, IsStock, slot_answer, dropped_slot, dropped, looked, DropsParams, TakesKids, DropsLeft, TakesLeft, nodes_left, noted_answer, nodes_named}

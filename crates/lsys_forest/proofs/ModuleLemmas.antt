@@ -1,9 +1,9 @@
 -- A forest without branches has no mates to be found.
-use Rattle.std.proofs.Common.{◌≡◌, ◌≢◌, ◌+◌, ℕ, Bool, false, List, [], ◌∷◌, ◌++◌, Some, None, refl, sym, ap, ◌∙◌, arith, inl, inr, subst}
+use Rattle.std.proofs.Common.{◌≡◌, ◌≢◌, ℕ, List, ◌∷◌, Some, None, refl, sym, ap, ◌∙◌, arith, inl, inr, subst}
 use Rattle.std.proofs.lemmas.Bool.{cases_eq}
 use Rattle.std.proofs.lemmas.Option.{none-some, same_Some}
 use Rattle.lsys_spec.specs.Rows.{In}
-use Rattle.lsys_level.specs.Spots.{Seen, Push, Pop, Module, IsBracket}
+use Rattle.lsys_level.specs.Spots.{IsBracket}
 use Rattle.lsys_forest.specs.declared.node.Footing.{Footing}
 use Rattle.lsys_forest.specs.declared.walk.Way.{Way}
 use Rattle.lsys_forest.specs.declared.walk.Way.TheVariants.{Left, Right}
@@ -11,7 +11,7 @@ use Rattle.lsys_forest.specs.Nodes.{Node, Nodes, with_node, root_node}
 use Rattle.lsys_forest.specs.Changes.{Change}
 use Rattle.lsys_forest.specs.Groves.{IsRooted}
 use Rattle.lsys_forest.specs.Rows.{level_nodes, spot_in}
-use Rattle.lsys_forest.specs.Pairs.{branch_opening, seen_at, AreMated, AreModules}
+use Rattle.lsys_forest.specs.Pairs.{branch_opening, AreMated, AreModules}
 use Rattle.lsys_forest.proofs.StockLemmas.{put_same, put_other}
 use Rattle.lsys_forest.proofs.RowLemmas.{In_right, oriented_In_back, level_depth}
 

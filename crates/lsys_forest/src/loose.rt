@@ -39,12 +39,7 @@ pub(crate) fn is_none(loose: Option<usize>) -> bool
 }
 
 /// Whether these children of a node are known to be all that were loose.
-fn are_all<A: Kept>(
-    loose: Option<usize>,
-    parts: &Parts<A>,
-    node: NodeId,
-    kids: &[NodeId],
-) -> bool
+fn are_all<A: Kept>(loose: Option<usize>, parts: &Parts<A>, node: NodeId, kids: &[NodeId]) -> bool
     requires { IsSome (nodes_of parts.now node) }
     ensures { IsTrue result → StaysWithKids loose (Some 0) (nodes_of parts.now) node kids.now }
 {

@@ -17,12 +17,7 @@ use lsys_module::Symbol;
 
 /// Finds the mates on the levels that are linked, where those on some from the first one on are found already, and answers on
 /// how many they are found then: on all of them that have nodes.
-fn mate_levels<A: Kept>(
-    parts: &mut Parts<A>,
-    root: NodeId,
-    mated: u32,
-    linked: u32,
-) -> u32
+fn mate_levels<A: Kept>(parts: &mut Parts<A>, root: NodeId, mated: u32, linked: u32) -> u32
     requires sound { IsRooted root (changes_of parts.old) (nodes_of parts.old) }
     requires ranked { AreRanked (nodes_of parts.old) parts.old.footings }
     requires linked { AreLinked (nodes_of parts.old) root parts.old.footings linked }

@@ -307,22 +307,9 @@ fn change_answer<A: Drop>(
     ensures changed { ChangesEntry (node_set (answer_set answer)) number nodes.old nodes.new }
 {
     match nodes.get_mut(number.0 as usize) {
-        Some(entry) => exchange(&mut entry.node.answer, answer),
+        Some(entry) => mem::replace(&mut entry.node.answer, answer),
         None => answer,
     }
-}
-
-/// Puts an answer in the place of one, and answers that one. Mostly there is none, and then nothing is moved out.
-#[inline]
-fn exchange<A: Drop>(place: &mut Option<A>, answer: Option<A>) -> Option<A>
-    ensures before { result ≡ place.old }
-    ensures now { place.new ≡ answer }
-{
-    if place.is_none() {
-        *place = answer;
-        return None;
-    }
-    mem::replace(place, answer)
 }
 
 /// Sets the run of a node's parameters, and answers the one before; where no node lives, the run comes back.

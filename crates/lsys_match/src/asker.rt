@@ -50,18 +50,11 @@ impl<'a> Asker<'a> {
     pub fn new(alloc: Global, system: &'a System, level: u32) -> Asker<'a>
         ensures { result ≡ asked_level system.now level }
     {
-        Asker::with_scratch(system, level, Vec::new(alloc))
-    }
-
-    // Of this level of a system, with a list for the values of formals, whatever is in it.
-    pub(crate) fn with_scratch(system: &'a System, level: u32, bound: Vec<i64>) -> Asker<'a>
-        ensures { result ≡ asked_level system.now level }
-    {
         Asker {
             system,
             level,
             filter: None,
-            bound,
+            bound: Vec::new(alloc),
         }
     }
 

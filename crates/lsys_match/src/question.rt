@@ -58,10 +58,8 @@ pub fn ask<'a, W: LevelView, L: Ledger, V: Ledger>(
     ensures asked { asked.new ≡ asked.old + news result }
     ensures store { KeepsStore store.old store.new (option_map (λ a. a.now) old.entry) result }
 {
-    let mut asker = Asker::with_scratch(system, level, store.lend());
-    let told = asker.ask(alloc, store, view, spot, old, asked, visited);
-    store.take_back(asker.bound);
-    match told {
+    let mut asker = Asker::new(alloc, system, level);
+    match asker.ask(alloc, store, view, spot, old, asked, visited) {
         Ok(Some(answer)) => Ok(answer),
         Ok(None) => unreachable!(),
         Err(refusal) => Err(refusal),
@@ -101,9 +99,22 @@ impl<'a> Asker<'a> {
         let Some(posed) = Posed::at(view, spot, self) else {
             return Ok(None);
         };
-        match self.answer(alloc, store, view, spot, &posed, old, asked, visited) {
+        self.exchange_for(&posed, store);
+        let answered = self.answer(alloc, store, view, spot, &posed, old, asked, visited);
+        self.exchange_for(&posed, store);
+        match answered {
             Ok(answer) => Ok(Some(answer)),
             Err(refusal) => Err(refusal),
+        }
+    }
+
+    // Takes the store's list for the values of formals, or gives it back: but where none is needed.
+    fn exchange_for(&mut self, posed: &Posed<'a>, store: &mut AnswerStore)
+        ensures same { self.new ≡ self.old }
+        ensures store { store.new ≡ store.old }
+    {
+        if !posed.is_plain() {
+            store.exchange(&mut self.bound);
         }
     }
 

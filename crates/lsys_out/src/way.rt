@@ -44,7 +44,11 @@ impl<'a, W: LevelView> Model for TurtleWay<'a, W> {
 
 impl<'a, W: LevelView> TurtleWay<'a, W> {
     /// At the start of the last level's image, and the turtle at its start.
-    pub fn new<T: Lattice>(view: &'a W, system: &'a System, turtle: &mut Turtle<T>) -> TurtleWay<'a, W>
+    pub fn new<T: Lattice>(
+        view: &'a W,
+        system: &'a System,
+        turtle: &mut Turtle<T>,
+    ) -> TurtleWay<'a, W>
         requires last { HasLast system.now (W.levels view.now) }
         requires room { image_nesting system.now (W.levels view.now) ≤ turtle.old.room }
         ensures drawing { BeginsDrawing T.shape result turtle.new.turtle system.now (W.levels view.now) }

@@ -17,8 +17,8 @@ pub struct TraceRuns {
     pub values: Run,
 }
 
-/// Where answers are kept: the entries of traces in one region, the parameters of the modules that were read in another. It lends a
-/// list for what is worked out for an answer.
+/// Where answers are kept: the entries of traces in one region, the parameters of the modules that were read in another. It has a
+/// list besides for what is worked out for an answer.
 #[derive(Drop)]
 pub struct AnswerStore {
     traces: Region<Entry>,
@@ -48,19 +48,11 @@ impl AnswerStore {
         }
     }
 
-    /// Lends a list for values, which has the room that it once took. Takes no memory.
-    pub fn lend(&mut self) -> Vec<i64>
+    /// Exchanges its list for values for another one, whatever is in them. Takes no memory.
+    pub fn exchange(&mut self, values: &mut Vec<i64>)
         ensures { self.new ≡ self.old }
     {
-        let none = Vec::new(*self.scratch.allocator());
-        mem::replace(&mut self.scratch, none)
-    }
-
-    /// Takes a list back, whatever is in it.
-    pub fn take_back(&mut self, scratch: Vec<i64>)
-        ensures { self.new ≡ self.old }
-    {
-        self.scratch = scratch;
+        mem::swap(&mut self.scratch, values);
     }
 
     /// Makes room for traces whose rooms are together at most `entries`, and for lists of parameters whose rooms are

@@ -1,4 +1,3 @@
-use Rattle.std.proofs.Common.{◌≡◌, false}
 use Rattle.lsys_forest.specs.Stocks.{nodes_of, changes_of}
 use Rattle.lsys_forest.proofs.ModuleLemmas.{modules_mated}
 use Rattle.lsys_forest.proofs.pairs.find_mates.Goals as goal

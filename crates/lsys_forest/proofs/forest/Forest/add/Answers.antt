@@ -55,11 +55,12 @@ invariant_of-self g c =
       linked = add_linked i.root i.parts c.insert.new.self c.insert.result i.linked n (list_room (params_in c.args.symbol.now)) 0 (sound_now c.self.invariant.grove) c.insert.ensures.vacant refl c.insert.ensures.added c.self.invariant.linked;
       mated = add_mated i.root i.parts c.insert.new.self c.insert.result i.mated n (list_room (params_in c.args.symbol.now)) 0 (sound_now c.self.invariant.grove) c.insert.ensures.vacant refl c.insert.ensures.added c.self.invariant.mated;
       branches = λ none. (
-      let unless = c.branches_with-self-inside.ensures none in
-      let modules = c.self.invariant.branches unless.0 in
-      (subst (λ (m : Nodes g.row.A.Denot). AreModules m i.root) (sym c.insert.ensures.added.nodes) (modules_put (nodes_of i.parts) i.root c.insert.result n (λ other bracket. unless.1 bracket) modules.0),
-      subst (λ (m : Nodes g.row.A.Denot). AreModules m i.root) (sym (add_rested i.parts c.insert.new.self c.insert.result n (list_room (params_in c.args.symbol.now)) 0 c.insert.ensures.vacant c.insert.ensures.added)) modules.1)
-      );
+          let unless = c.branches_with-self-inside.ensures none in
+          let modules = c.self.invariant.branches unless.0 in (
+            subst (λ (m : Nodes g.row.A.Denot). AreModules m i.root) (sym c.insert.ensures.added.nodes) (modules_put (nodes_of i.parts) i.root c.insert.result n (λ other bracket. unless.1 bracket) modules.0),
+            subst (λ (m : Nodes g.row.A.Denot). AreModules m i.root) (sym (add_rested i.parts c.insert.new.self c.insert.result n (list_room (params_in c.args.symbol.now)) 0 c.insert.ensures.vacant c.insert.ensures.added)) modules.1,
+          )
+          );
       loose = subst (λ (m : Nodes g.row.A.Denot). AreLoose c.loose_with_one-self-inside.result m i.root) (sym c.insert.ensures.added.nodes) (loose_with_one i.loose c.loose_with_one-self-inside.result (nodes_of i.parts) i.root c.insert.result n c.loose_with_one-self-inside.ensures c.insert.ensures.vacant c.self.invariant.loose);
     }
 

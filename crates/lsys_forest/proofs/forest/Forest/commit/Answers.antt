@@ -31,11 +31,11 @@ invariant_of-self g c =
       linked = swept_linked i.root (nodes_of i.parts) (nodes_of c.sweep_all.new.parts) i.parts.footings c.sweep_all.new.parts.footings i.linked sound (left_stood (nodes_of i.parts) i.root (nodes_of c.sweep_all.new.parts) e.swept) e.footings c.self.invariant.linked;
       mated = swept_mated i.root (nodes_of i.parts) (nodes_of c.sweep_all.new.parts) i.parts.footings c.sweep_all.new.parts.footings i.mated sound (left_stood (nodes_of i.parts) i.root (nodes_of c.sweep_all.new.parts) e.swept) e.footings c.self.invariant.mated;
       branches = λ none. (
-      let modules = (c.self.invariant.branches none).0 in
-      let stood = left_stood (nodes_of i.parts) i.root (nodes_of c.sweep_all.new.parts) e.swept in
-      let now : AreModules (nodes_of c.sweep_all.new.parts) i.root = λ k n is other bracket. modules k n (stood k n is) other bracket in
-      (now, subst (λ cs. AreModules (undone cs (nodes_of c.sweep_all.new.parts)) i.root) (sym e.empty) now)
-      );
+          let modules = (c.self.invariant.branches none).0 in
+          let stood = left_stood (nodes_of i.parts) i.root (nodes_of c.sweep_all.new.parts) e.swept in
+          let now : AreModules (nodes_of c.sweep_all.new.parts) i.root = λ k n is other bracket. modules k n (stood k n is) other bracket in
+          (now, subst (λ cs. AreModules (undone cs (nodes_of c.sweep_all.new.parts)) i.root) (sym e.empty) now)
+          );
       loose = none_at_rest (nodes_of c.sweep_all.new.parts) i.root sound;
     }
 

@@ -29,9 +29,9 @@ invariant_of-result g c =
       linked = λ t k way before after less whole. absurd (omega (arith, less));
       mated = λ t less. absurd (omega (arith, less));
       branches = λ none. (
-      let now = root_alone (nodes_of p) e.nodes in
-      (now, subst (λ cs. AreModules (undone cs (nodes_of p)) 0) (sym e.changes) now)
-      );
+          let now = root_alone (nodes_of p) e.nodes in
+          (now, subst (λ cs. AreModules (undone cs (nodes_of p)) 0) (sym e.changes) now)
+          );
       loose = none_at_rest (nodes_of p) 0 sound;
     }
 

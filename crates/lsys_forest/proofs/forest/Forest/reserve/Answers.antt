@@ -23,10 +23,11 @@ invariant_of-self g c =
       linked = subst (λ (m : Nodes g.row.A.Denot). AreLinked m i.root c.reserve.new.self.footings i.linked) (sym e.nodes) (subst (λ fs. AreLinked (nodes_of i.parts) i.root fs i.linked) (sym e.footings) c.self.invariant.linked);
       mated = subst (λ (m : Nodes g.row.A.Denot). AreMated m i.root c.reserve.new.self.footings i.mated) (sym e.nodes) (subst (λ fs. AreMated (nodes_of i.parts) i.root fs i.mated) (sym e.footings) c.self.invariant.mated);
       branches = λ none. (
-      let modules = c.self.invariant.branches none in
-      (subst (λ (m : Nodes g.row.A.Denot). AreModules m i.root) (sym e.nodes) modules.0,
-      subst (λ (m : Nodes g.row.A.Denot). AreModules m i.root) (sym (ap (undone (changes_of c.reserve.new.self)) e.nodes ∙ ap (λ cs. undone cs (nodes_of i.parts)) e.changes)) modules.1)
-      );
+          let modules = c.self.invariant.branches none in (
+            subst (λ (m : Nodes g.row.A.Denot). AreModules m i.root) (sym e.nodes) modules.0,
+            subst (λ (m : Nodes g.row.A.Denot). AreModules m i.root) (sym (ap (undone (changes_of c.reserve.new.self)) e.nodes ∙ ap (λ cs. undone cs (nodes_of i.parts)) e.changes)) modules.1,
+          )
+          );
       loose = subst (λ (m : Nodes g.row.A.Denot). AreLoose i.loose m i.root) (sym e.nodes) c.self.invariant.loose;
     }
 
@@ -49,11 +50,12 @@ invariant_of-self-2 g c =
       linked = subst (λ (t : Stock g.row.A.Denot). AreLinked (nodes_of t) i.root t.footings i.linked) (sym r.same) (subst (λ (m : Nodes g.row.A.Denot). AreLinked m i.root c.reserve.new.self.footings i.linked) (sym e.nodes) (subst (λ fs. AreLinked (nodes_of i.parts) i.root fs i.linked) (sym e.footings) c.self.invariant.linked));
       mated = subst (λ (t : Stock g.row.A.Denot). AreMated (nodes_of t) i.root t.footings i.mated) (sym r.same) (subst (λ (m : Nodes g.row.A.Denot). AreMated m i.root c.reserve.new.self.footings i.mated) (sym e.nodes) (subst (λ fs. AreMated (nodes_of i.parts) i.root fs i.mated) (sym e.footings) c.self.invariant.mated));
       branches = λ none. (
-      let modules = c.self.invariant.branches none in
-      subst (λ (t : Stock g.row.A.Denot). AreModules (nodes_of t) i.root × AreModules (undone (changes_of t) (nodes_of t)) i.root) (sym r.same)
-      (subst (λ (m : Nodes g.row.A.Denot). AreModules m i.root) (sym e.nodes) modules.0,
-      subst (λ (m : Nodes g.row.A.Denot). AreModules m i.root) (sym (ap (undone (changes_of c.reserve.new.self)) e.nodes ∙ ap (λ cs. undone cs (nodes_of i.parts)) e.changes)) modules.1)
-      );
+          let modules = c.self.invariant.branches none in
+          subst (λ (t : Stock g.row.A.Denot). AreModules (nodes_of t) i.root × AreModules (undone (changes_of t) (nodes_of t)) i.root) (sym r.same) (
+            subst (λ (m : Nodes g.row.A.Denot). AreModules m i.root) (sym e.nodes) modules.0,
+            subst (λ (m : Nodes g.row.A.Denot). AreModules m i.root) (sym (ap (undone (changes_of c.reserve.new.self)) e.nodes ∙ ap (λ cs. undone cs (nodes_of i.parts)) e.changes)) modules.1,
+          )
+          );
       loose = subst (λ (t : Stock g.row.A.Denot). AreLoose i.loose (nodes_of t) i.root) (sym r.same) (subst (λ (m : Nodes g.row.A.Denot). AreLoose i.loose m i.root) (sym e.nodes) c.self.invariant.loose);
     }
 

@@ -28,10 +28,10 @@ invariant_of-self g c =
       linked = e.linked;
       mated = λ t less. absurd (omega (arith, less));
       branches = λ none. (
-      let modules = (c.self.invariant.branches none).1 in
-      let now = subst (λ (m : Nodes g.row.A.Denot). AreModules m i.root) (sym e.nodes) modules in
-      (now, subst (λ cs. AreModules (undone cs (nodes_of c.undo_all.new.parts)) i.root) (sym e.empty) now)
-      );
+          let modules = (c.self.invariant.branches none).1 in
+          let now = subst (λ (m : Nodes g.row.A.Denot). AreModules m i.root) (sym e.nodes) modules in
+          (now, subst (λ cs. AreModules (undone cs (nodes_of c.undo_all.new.parts)) i.root) (sym e.empty) now)
+          );
       loose = none_at_rest (nodes_of c.undo_all.new.parts) i.root (subst (IsRooted i.root []) (sym e.nodes) (sound_rest c.self.invariant.grove));
     }
 

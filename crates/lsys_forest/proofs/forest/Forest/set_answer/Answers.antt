@@ -29,10 +29,11 @@ invariant_of-self g c =
       linked = set_linked i.root (changes_of c.set_answer.new.self) i.parts c.set_answer.new.self c.args.node i.linked s.0 (with_answer c.args.answer s.0) _ 0 0 (sound_now grove) s.1 refl j c.self.invariant.linked;
       mated = set_mated i.root (changes_of c.set_answer.new.self) i.parts c.set_answer.new.self c.args.node i.mated i.mated s.0 (with_answer c.args.answer s.0) _ 0 0 (sound_now grove) s.1 refl (inl (same_sort s.0.seen s.0.seen refl)) j (omega arith) c.self.invariant.mated;
       branches = λ none. (
-      let modules = c.self.invariant.branches none in
-      (subst (λ (m : Nodes g.row.A.Denot). AreModules m i.root) (sym j.nodes) (modules_put (nodes_of i.parts) i.root c.args.node (with_answer c.args.answer s.0) (λ other bracket. modules.0 c.args.node s.0 s.1 other bracket) modules.0),
-      subst (λ (m : Nodes g.row.A.Denot). AreModules m i.root) (sym (set_rested i.parts c.set_answer.new.self i.root c.args.node s.0 (with_answer c.args.answer s.0) _ 0 0 (set_answer i.root (changes_of i.parts) (nodes_of i.parts) c.args.node s.0 c.args.answer (sound_now c.self.invariant.grove) s.1) j)) modules.1)
-      );
+          let modules = c.self.invariant.branches none in (
+            subst (λ (m : Nodes g.row.A.Denot). AreModules m i.root) (sym j.nodes) (modules_put (nodes_of i.parts) i.root c.args.node (with_answer c.args.answer s.0) (λ other bracket. modules.0 c.args.node s.0 s.1 other bracket) modules.0),
+            subst (λ (m : Nodes g.row.A.Denot). AreModules m i.root) (sym (set_rested i.parts c.set_answer.new.self i.root c.args.node s.0 (with_answer c.args.answer s.0) _ 0 0 (set_answer i.root (changes_of i.parts) (nodes_of i.parts) c.args.node s.0 c.args.answer (sound_now c.self.invariant.grove) s.1) j)) modules.1,
+          )
+          );
       loose = subst (λ (m : Nodes g.row.A.Denot). AreLoose i.loose m i.root) (sym j.nodes) (loose_set i.loose (nodes_of i.parts) i.root c.args.node s.0 (with_answer c.args.answer s.0) s.1 refl refl c.self.invariant.loose);
     }
 

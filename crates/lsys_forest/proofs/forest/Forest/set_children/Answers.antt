@@ -57,12 +57,12 @@ invariant_of-self g c =
       mated = subst (λ (t : Stock g.row.A.Denot). AreMated (nodes_of t) i.root footings c.min-self-inside-2.result) (sym e.same)
           (kids_mated i.root (changes_of old) i.parts old footings c.args.node i.mated c.min-self-inside-2.result s.0 n _ 0 (list_room c.args.kids.now) (sound_now grove) s.1 refl j e.mates (omega (arith, c.min-self-inside-2.ensures)) (omega (arith, c.min-self-inside-2.ensures, high)) c.self.invariant.mated);
       branches = λ none. (
-      let modules = c.self.invariant.branches none in
-      subst (λ (t : Stock g.row.A.Denot). AreModulesUnless false t i.root) (sym e.same) (λ no. (
-      subst (λ (m : Nodes g.row.A.Denot). AreModules m i.root) (sym j.nodes) (modules_put (nodes_of i.parts) i.root c.args.node n (λ other bracket. modules.0 c.args.node s.0 s.1 other bracket) modules.0),
-      subst (λ (m : Nodes g.row.A.Denot). AreModules m i.root) (sym (set_rested i.parts old i.root c.args.node s.0 n _ 0 (list_room c.args.kids.now) (set_kids i.root (changes_of i.parts) (nodes_of i.parts) c.args.node s.0 c.args.kids.now kids (sound_now c.self.invariant.grove) s.1) j)) modules.1
-      )) refl
-      );
+          let modules = c.self.invariant.branches none in
+          subst (λ (t : Stock g.row.A.Denot). AreModulesUnless false t i.root) (sym e.same) (λ no. (
+            subst (λ (m : Nodes g.row.A.Denot). AreModules m i.root) (sym j.nodes) (modules_put (nodes_of i.parts) i.root c.args.node n (λ other bracket. modules.0 c.args.node s.0 s.1 other bracket) modules.0),
+            subst (λ (m : Nodes g.row.A.Denot). AreModules m i.root) (sym (set_rested i.parts old i.root c.args.node s.0 n _ 0 (list_room c.args.kids.now) (set_kids i.root (changes_of i.parts) (nodes_of i.parts) c.args.node s.0 c.args.kids.now kids (sound_now c.self.invariant.grove) s.1) j)) modules.1,
+          )) refl
+          );
       loose = subst (λ (t : Stock g.row.A.Denot). AreLoose c.loose_beside-self-inside.result (nodes_of t) i.root) (sym e.same)
           (subst (λ (m : Nodes g.row.A.Denot). AreLoose c.loose_beside-self-inside.result m i.root) (sym j.nodes) (c.loose_beside-self-inside.ensures i.root s.0 s.1 kids c.self.invariant.loose));
     }

@@ -47,11 +47,12 @@ invariant_of-self g c =
       linked = set_linked i.root (changes_of c.set_symbol.new.self) i.parts c.set_symbol.new.self c.args.node i.linked s.0 (with_seen (seen_in c.args.symbol.now) s.0) _ (list_room (params_in c.args.symbol.now)) 0 (sound_now grove) s.1 refl j c.self.invariant.linked;
       mated = set_mated i.root (changes_of c.set_symbol.new.self) i.parts c.set_symbol.new.self c.args.node i.mated c.mated_still-self-inside.result s.0 (with_seen (seen_in c.args.symbol.now) s.0) _ (list_room (params_in c.args.symbol.now)) 0 (sound_now grove) s.1 refl sort j c.mated_still-self-inside.ensures.fewer c.self.invariant.mated;
       branches = λ none. (
-      let unless = c.branches_with-self-inside.ensures none in
-      let modules = c.self.invariant.branches unless.0 in
-      (subst (λ (m : Nodes g.row.A.Denot). AreModules m i.root) (sym j.nodes) (modules_put (nodes_of i.parts) i.root k (with_seen (seen_in c.args.symbol.now) s.0) (λ other bracket. unless.1 bracket) modules.0),
-      subst (λ (m : Nodes g.row.A.Denot). AreModules m i.root) (sym (set_rested i.parts c.set_symbol.new.self i.root k s.0 (with_seen (seen_in c.args.symbol.now) s.0) _ (list_room (params_in c.args.symbol.now)) 0 (set_seen i.root (changes_of i.parts) (nodes_of i.parts) k s.0 (seen_in c.args.symbol.now) c.set_symbol.ensures.few (sound_now c.self.invariant.grove) s.1) j)) modules.1)
-      );
+          let unless = c.branches_with-self-inside.ensures none in
+          let modules = c.self.invariant.branches unless.0 in (
+            subst (λ (m : Nodes g.row.A.Denot). AreModules m i.root) (sym j.nodes) (modules_put (nodes_of i.parts) i.root k (with_seen (seen_in c.args.symbol.now) s.0) (λ other bracket. unless.1 bracket) modules.0),
+            subst (λ (m : Nodes g.row.A.Denot). AreModules m i.root) (sym (set_rested i.parts c.set_symbol.new.self i.root k s.0 (with_seen (seen_in c.args.symbol.now) s.0) _ (list_room (params_in c.args.symbol.now)) 0 (set_seen i.root (changes_of i.parts) (nodes_of i.parts) k s.0 (seen_in c.args.symbol.now) c.set_symbol.ensures.few (sound_now c.self.invariant.grove) s.1) j)) modules.1,
+          )
+          );
       loose = subst (λ (m : Nodes g.row.A.Denot). AreLoose i.loose m i.root) (sym j.nodes) (loose_set i.loose (nodes_of i.parts) i.root c.args.node s.0 (with_seen (seen_in c.args.symbol.now) s.0) s.1 refl refl c.self.invariant.loose);
     }
 

@@ -1,6 +1,6 @@
 use Rattle.std.proofs.Common.{arith}
 use Rattle.std.proofs.lemmas.Grind.{elements}
-use Rattle.lsys_match.proofs.asker.Asker.with_scratch.Goals as goal
+use Rattle.lsys_match.proofs.asker.Asker.new.Goals as goal
 
 pub invariant_of-result : goal.invariant_of-result
 invariant_of-result c = grind (arith, elements)
