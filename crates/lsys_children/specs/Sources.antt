@@ -24,10 +24,6 @@ abbrev pub IsWantedAlone : Grove Kept → Parent → Type 0
 IsWantedAlone f p =
     wants (now_of f) p ≡ itself (spot_in p.node (now_of f p.node)).seen ∷ []
 
--- these are the symbol of a node alone
-abbrev pub AreItself : Grove Kept → ℕ → List Symbol → Type 0
-AreItself f k symbols = itself (spot_in k (now_of f k)).seen ∷ [] ≡ string_of symbols
-
 -- it is; or they stand in this body
 abbrev pub TellsSource : Grove Kept → Parent → SymbolSource → Type 0
 TellsSource f p code.Itself = IsWantedAlone f p

@@ -3,7 +3,6 @@ ghost use Rattle.std.specs.Prelude.{◌≡◌, [], OnOk};
 ghost use Rattle.lsys_module.specs.Views.{string_of};
 ghost use Rattle.lsys_forest.specs.Groves.{now_of, IsLive};
 ghost use Rattle.lsys_children.specs.Parents.{wants};
-ghost use Rattle.lsys_children.specs.Sources.{AreItself};
 ghost use Rattle.lsys_children.specs.Answers.{kept_successors};
 
 use crate::parent::Parent;
@@ -36,7 +35,7 @@ pub(crate) fn copy_wanted<L: Ledger>(
     copy_whole(forest, parent.node, symbols)
 }
 
-/// The same where no cut cuts them off, into an empty list.
+/// The same where no cut cuts them off, into an empty list. A bracket is replaced by itself.
 fn copy_whole<L: Ledger>(
     forest: &Forest<KeptAnswer<L>>,
     node: NodeId,
@@ -44,28 +43,14 @@ fn copy_whole<L: Ledger>(
 ) -> Result<(), AllocError>
     requires lives { IsLive forest.now node }
     requires empty { symbols.old.items ≡ [] }
-    ensures wanted { OnOk result (kept_successors (now_of forest.now) node
+    ensures all { OnOk result (kept_successors (now_of forest.now) node
         ≡ string_of symbols.new.items) }
 {
-    match forest.symbol(node) {
-        Sight::Push | Sight::Pop => copy_itself(forest, node, symbols),
-        Sight::Module { .. } => match forest.answer(node) {
-            Some(kept) => symbols.extend_from_slice(kept.answer.successor().symbols()),
-            None => copy_itself(forest, node, symbols),
-        },
+    if let Sight::Module { .. } = forest.symbol(node) {
+        if let Some(kept) = forest.answer(node) {
+            return symbols.extend_from_slice(kept.answer.successor().symbols());
+        }
     }
-}
-
-/// The symbol of a node that nothing replaces, into an empty list.
-fn copy_itself<L: Ledger>(
-    forest: &Forest<KeptAnswer<L>>,
-    node: NodeId,
-    symbols: &mut Vec<Symbol>,
-) -> Result<(), AllocError>
-    requires lives { IsLive forest.now node }
-    requires empty { symbols.old.items ≡ [] }
-    ensures wanted { OnOk result (AreItself forest.now node symbols.new.items) }
-{
     symbols.push(symbol_seen(forest.symbol(node)))?;
     Ok(())
 }

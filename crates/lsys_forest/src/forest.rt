@@ -1,17 +1,15 @@
 //! The forest.
-ghost use Rattle.std.specs.Prelude.{◌↔◌, ◌≡◌, ◌≢◌, ◌⊎◌, ◌+◌, ◌-◌, ◌<◌, ◌≤◌, ◌^◌, ℕ, [], None, Some, IfOk, IfSome, OnOk, IsTrue, option_copied, length, max, List, ℤ};
+ghost use Rattle.std.specs.Prelude.{◌↔◌, ◌≡◌, ◌≢◌, ◌+◌, ◌<◌, ◌≤◌, ◌^◌, ℕ, [], None, Some, IfOk, IfSome, OnOk, IsTrue, option_copied, length, max, List, ℤ};
 ghost use Rattle.lsys_module.specs.declared.symbol.Symbol.TheVariants.{Cut};
 ghost use Rattle.lsys_level.specs.Places.{seen_in, params_in};
 ghost use Rattle.lsys_level.specs.Views.{seen_of, HasFewParams};
 ghost use Rattle.lsys_region.specs.Rooms.{list_room};
-ghost use Rattle.lsys_forest.specs.Nodes.{Node, root_node, seen_as, with_seen, with_key, with_kids, with_answer, ForNode};
+ghost use Rattle.lsys_forest.specs.Nodes.{Node, root_node, with_seen, with_key, with_kids, with_answer, ForNode};
 ghost use Rattle.lsys_forest.specs.Slots.{live_slots};
 ghost use Rattle.lsys_forest.specs.Stocks.{nodes_of};
 ghost use Rattle.lsys_forest.specs.Answers.{LiveApart};
 ghost use Rattle.lsys_forest.specs.Rows.{oriented, complete_levels, level_of_node, place_of_node, IsAtSpot, level_with};
-ghost use Rattle.lsys_forest.specs.Mates.{mate_way};
 ghost use Rattle.lsys_forest.specs.Ranks.{AreRanked, AreLinked};
-ghost use Rattle.lsys_forest.specs.Pairs.{AreSameSort};
 ghost use Rattle.lsys_forest.specs.Groves.{now_of, rest_of, IsAtRest, IsLive, live_nodes, numbers_in, spare_params, spare_kids, kept_in, changes_in, IsRooted, AreSound, Reached, AreKids, Spends, KeepsSpares, Alters, AddsNode, NotesAnswer, KeepsReached, FreesAllBesides};
 ghost use Rattle.lsys_forest.specs.Regions.{ParamsStandIn, KidsStandIn, HasNoPastLists};
 ghost use Rattle.lsys_forest.specs.Neighbours.{IsNextIn, IsChildFrom, IsFirstBelow, IsLastBelow, IsLeftNode, IsRightNode, IsMateNode};
@@ -21,7 +19,7 @@ use crate::kept::Kept;
 use crate::link::link_levels;
 use crate::loose::{loose_beside, loose_with_one};
 use crate::node::{NodeId, NodeKind};
-use crate::pairs::{branches_with, find_mates};
+use crate::pairs::{branches_with, find_mates, mated_still, way_to_mate};
 use crate::seen::is_seen;
 use crate::stock::Parts;
 use crate::sweep::sweep_all;
@@ -569,30 +567,6 @@ impl<A: Kept> LevelView for Forest<A> {
 
     fn key(&self, spot: NodeId) -> u64 {
         self.parts.key(spot)
-    }
-}
-
-/// Which way the mate of a bracket is; of a module, which has none, to the right.
-fn way_to_mate(kind: NodeKind) -> Way
-    ensures { result ≡ mate_way kind }
-{
-    match kind {
-        NodeKind::Pop => Way::Left,
-        _ => Way::Right,
-    }
-}
-
-/// On how many levels mates stay, where they stood on so many, and a node so many steps below the root got this symbol in
-/// place of one of this kind: on all of them, where both are the same bracket or modules.
-fn mated_still(mated: u32, depth: u32, kind: NodeKind, symbol: &Symbol) -> u32
-    ensures fewer { result ≤ mated }
-    ensures sort { AreSameSort (seen_as kind []) (seen_in symbol.now) ⊎ (result ≤ depth - 1) }
-{
-    match (kind, symbol) {
-        (NodeKind::Push, Symbol::Push) => mated,
-        (NodeKind::Pop, Symbol::Pop) => mated,
-        (NodeKind::Module(_), Symbol::Module(_)) => mated,
-        _ => mated.min(depth.saturating_sub(1)),
     }
 }
 

@@ -1,12 +1,14 @@
 //! Mates of the brackets of linked levels.
-ghost use Rattle.std.specs.Prelude.{◌≡◌, ◌+◌, ◌≤◌, ◌<◌, ◌∷◌, [], Some, IsSome, false};
+ghost use Rattle.std.specs.Prelude.{◌≡◌, ◌⊎◌, ◌+◌, ◌-◌, ◌≤◌, ◌<◌, ◌∷◌, [], Some, IsSome, false};
 ghost use Rattle.lsys_spec.specs.Rows.{first_in};
 ghost use Rattle.lsys_level.specs.Spots.{Pop, IsBracket};
 ghost use Rattle.lsys_level.specs.Places.{seen_in};
+ghost use Rattle.lsys_forest.specs.Nodes.{seen_as};
+ghost use Rattle.lsys_forest.specs.Mates.{mate_way};
 ghost use Rattle.lsys_forest.specs.Stocks.{nodes_of, changes_of};
 ghost use Rattle.lsys_forest.specs.Groves.{IsRooted};
 ghost use Rattle.lsys_forest.specs.Ranks.{AreRanked, AreLinked, IsApartFrom};
-ghost use Rattle.lsys_forest.specs.Pairs.{AreMated, AreModules, PairsIn, seen_at};
+ghost use Rattle.lsys_forest.specs.Pairs.{AreMated, AreModules, AreSameSort, PairsIn, seen_at};
 ghost use Rattle.lsys_forest.specs.Rows.{level_nodes};
 
 use crate::kept::Kept;
@@ -135,5 +137,29 @@ fn end_branch<A: Kept>(parts: &mut Parts<A>, node: NodeId, opener: Option<NodeId
             parts.set_mate(node, None);
             None
         }
+    }
+}
+
+/// Which way the mate of a bracket is; of a module, which has none, to the right.
+pub(crate) fn way_to_mate(kind: NodeKind) -> Way
+    ensures { result ≡ mate_way kind }
+{
+    match kind {
+        NodeKind::Pop => Way::Left,
+        _ => Way::Right,
+    }
+}
+
+/// On how many levels mates stay, where they stood on so many, and a node so many steps below the root got this symbol in
+/// place of one of this kind: on all of them, where both are the same bracket or modules.
+pub(crate) fn mated_still(mated: u32, depth: u32, kind: NodeKind, symbol: &Symbol) -> u32
+    ensures fewer { result ≤ mated }
+    ensures sort { AreSameSort (seen_as kind []) (seen_in symbol.now) ⊎ (result ≤ depth - 1) }
+{
+    match (kind, symbol) {
+        (NodeKind::Push, Symbol::Push) => mated,
+        (NodeKind::Pop, Symbol::Pop) => mated,
+        (NodeKind::Module(_), Symbol::Module(_)) => mated,
+        _ => mated.min(depth.saturating_sub(1)),
     }
 }

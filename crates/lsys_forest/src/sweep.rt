@@ -143,7 +143,7 @@ fn forget_all<A: Kept>(parts: &mut Parts<A>, store: &mut A::Store)
 #[inline]
 fn forget_one<A: Kept>(parts: &mut Parts<A>, store: &mut A::Store) -> bool
     requires { ForLastChange parts.old (λ c. Lives A.run_at A.Holds store.old (old_answer c)) }
-    ensures taken { IsTrue result → ForgetsOne A.run_at A.Holds parts.old parts.new store.old store.new }
+    ensures one { IsTrue result → ForgetsOne A.run_at A.Holds parts.old parts.new store.old store.new }
     ensures none { result ≡ false → StaysUnchanged parts.old parts.new store.old store.new }
 {
     parts.take_last(store).is_some()

@@ -26,7 +26,7 @@ forget_one-requires g c = λ x earlier were.
 
 pub loop-preserved : goal.loop-preserved
 loop-preserved g c =
-    let done = (c.loop-test.ensures.taken refl).1 in
+    let done = (c.loop-test.ensures.one refl).1 in
     let x = done.0 in
     let takes = done.1.takes in
     let m = nodes_of c.loop.parts in
