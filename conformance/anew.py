@@ -13,7 +13,7 @@ from squares import instructions
 
 # What an edit may cost, in what it costs to derive anew what it leaves.
 MOST_OF_ANEW = 1.2
-LARGE = "more is let go than is left, or several times as much: letting go a node costs a third of making one, or more"
+LARGE = "more is let go than is left, or several times as much: letting go a node costs a third to a half of making one, or more"
 ALL = "each node has another number, so all are made anew beside those that are let go"
 OTHER = "old nodes get other symbols or other children, which are matched with those that they had: to make one costs less"
 FIRST = ALL + "; and as the first edit after a derivation it lists who read what, which that left out"
@@ -28,18 +28,19 @@ class Dear(NamedTuple):
 
 # Edits that may cost more, by system and kind.
 DEARER = {
-    ("koch", "the production of all lines"): Dear(4.3, LARGE),
-    ("koch", "depth down by one"): Dear(3.3, LARGE),
-    ("koch", "axiom: a symbol in front, by places"): Dear(1.4, ALL),
-    ("plant", "the production of the buds"): Dear(3.0, LARGE),
-    ("plant", "depth down by one"): Dear(1.4, LARGE),
-    ("plant", "axiom: a symbol in front, by places"): Dear(1.9, ALL),
+    ("koch", "the production of all lines"): Dear(5.0, LARGE),
+    ("koch", "depth down by one"): Dear(3.9, LARGE),
+    ("koch", "axiom: a symbol in front, by places"): Dear(1.65, ALL),
+    ("plant", "the production of the buds"): Dear(3.4, LARGE),
+    ("plant", "depth down by one"): Dear(1.6, LARGE),
+    ("plant", "axiom: a symbol in front, by places"): Dear(2.1, ALL),
     ("row by names", "lineage by places"): Dear(1.8, ALL),
     ("row", "lineage by names"): Dear(1.8, ALL),
     ("row", "axiom: a symbol in front, by places"): Dear(1.5, ALL),
     ("left context", "axiom: a symbol in front, by places"): Dear(1.8, FIRST),
     ("row", "axiom: all others"): Dear(1.4, OTHER),
-    ("row", "a production of half of all symbols"): Dear(1.4, OTHER),
+    ("row", "a production of half of all symbols"): Dear(1.5, OTHER),
+    ("parameters and weights", "axiom: a module in front, by places"): Dear(1.3, ALL),
     ("parameters and weights", "a production of all of a letter"): Dear(1.4, OTHER),
     ("parameters and weights", "seed, with weights"): Dear(1.4, KEYS),
 }
