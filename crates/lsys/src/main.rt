@@ -3,7 +3,7 @@
 
 ghost use Rattle.std.specs.Prelude.{◌≡◌, ◌<◌};
 
-use lsys_cli::{Status, lsys, status_without_words, words_behind_name};
+use lsys_cli::{Status, lsys, status_without_words, words_after_name};
 use lsys_io::{StdSink, StdSource};
 use lsys_match::Steps;
 use std::env;
@@ -54,7 +54,7 @@ fn run(rt: &HostRuntime, words: &[String]) -> Status {
 
 fn main(rt: HostRuntime) -> ExitCode {
     let status = match all_words(&rt) {
-        Ok(words) => run(&rt, words_behind_name(words.as_slice())),
+        Ok(words) => run(&rt, words_after_name(words.as_slice())),
         Err(status) => status,
     };
     if status == Status::Usage {

@@ -57,9 +57,9 @@ quiet-gap false false ps h = h
 quiet-string : (xs : List (S.Symbol Expr)) → IsQuiet false (string_pieces expr_pieces xs)
 quiet-string [] = λ seen n. refl
 quiet-string (S.Module m es ∷ xs) =
-    let behind = gap (ends_in_name (S.Module m es)) (begins_with_letter xs) ++ string_pieces expr_pieces xs in
-    quiet-token (name_kind m) (params_pieces expr_pieces es ++ behind)
-    (quiet-params es behind (quiet-gap (ends_in_name (S.Module m es)) (begins_with_letter xs) (string_pieces expr_pieces xs) (quiet-string xs)))
+    let after = gap (ends_in_name (S.Module m es)) (begins_with_letter xs) ++ string_pieces expr_pieces xs in
+    quiet-token (name_kind m) (params_pieces expr_pieces es ++ after)
+    (quiet-params es after (quiet-gap (ends_in_name (S.Module m es)) (begins_with_letter xs) (string_pieces expr_pieces xs) (quiet-string xs)))
 quiet-string (S.Push ∷ xs) = λ seen n. quiet-gap false (begins_with_letter xs) (string_pieces expr_pieces xs) (quiet-string xs) (seen ++ []) (n + 1)
 quiet-string (S.Pop ∷ xs) = λ seen n. quiet-gap false (begins_with_letter xs) (string_pieces expr_pieces xs) (quiet-string xs) (seen ++ []) (n + 1)
 quiet-string (S.Cut ∷ xs) = λ seen n. quiet-gap false (begins_with_letter xs) (string_pieces expr_pieces xs) (quiet-string xs) (seen ++ []) (n + 1)
@@ -75,9 +75,9 @@ quiet-option k (Some e) ps h = quiet-token k (blank ∷ (expr_pieces e ++ ps)) (
 pub quiet-rest : (ks : List Kind) (r : RuleLine) → IsQuiet false (rest_pieces ks r)
 quiet-rest ks r =
     let weight = option_pieces At (option_at ks r.weight) in
-    let behind = blank ∷ token Arrow ∷ successor_pieces (images_at ks r.successor.items) in
-    quiet-option Colon (option_at ks r.condition) (weight ++ behind)
-    (quiet-option At (option_at ks r.weight) behind (quiet-token Arrow (successor_pieces (images_at ks r.successor.items)) (quiet-successor (images_at ks r.successor.items))))
+    let after = blank ∷ token Arrow ∷ successor_pieces (images_at ks r.successor.items) in
+    quiet-option Colon (option_at ks r.condition) (weight ++ after)
+    (quiet-option At (option_at ks r.weight) after (quiet-token Arrow (successor_pieces (images_at ks r.successor.items)) (quiet-successor (images_at ks r.successor.items))))
 
 pub head-rest : (ks : List Kind) (r : RuleLine) → rule_pieces (rule_at ks r) ≡ head_pieces r ++ rest_pieces ks r
 head-rest ks r =

@@ -180,23 +180,23 @@ pub params-done : {x : FormalNames} {n m : ℕ} (ks : List Kind) (ps : List Piec
 params-done {x = x} {n = n} {m = m} ks ps ss i l h = search-done ps (subst (λ us. SearchGoes x n ps m (params ks us)) (drop_all i ss l) h)
 
 module _ {x : FormalNames} {n m : ℕ} (ks : List Kind) (ps : List Piece) (xs : List ImageSymbol) (i : ℕ) (y : ImageSymbol) (l : i < length xs) (e : y ≡ get_or xs i y) (h : SearchGoes x n ps m (pieces ks (drop i xs))) where
-  abbrev behind : List Piece
-  behind = gap (ends_in_name (image_at ks y)) (begins_with_letter (images_at ks (drop (i + 1) xs))) ++ pieces ks (drop (i + 1) xs)
+  abbrev after : List Piece
+  after = gap (ends_in_name (image_at ks y)) (begins_with_letter (images_at ks (drop (i + 1) xs))) ++ pieces ks (drop (i + 1) xs)
 
-  next-image : SearchGoes x n ps m (symbol_pieces expr_pieces (image_at ks y) ++ behind)
+  next-image : SearchGoes x n ps m (symbol_pieces expr_pieces (image_at ks y) ++ after)
   next-image = subst (λ us. SearchGoes x n ps m (pieces ks us)) (drop-item xs i y l e) h
 
   pub image-room : (all : ℕ) → n + count ps ≤ all → m + count (symbol_pieces expr_pieces (image_at ks y)) ≤ all
-  image-room all room = omega (arith, room, next-image.place, count-append (symbol_pieces expr_pieces (image_at ks y)) behind)
+  image-room all room = omega (arith, room, next-image.place, count-append (symbol_pieces expr_pieces (image_at ks y)) after)
 
   pub image-more : {o : ℕ} → Searches x m (symbol_pieces expr_pieces (image_at ks y)) (Ok o) → SearchGoes x n ps o (pieces ks (drop (i + 1) xs))
   image-more {o = o} k =
       search-more ps (gap (ends_in_name (image_at ks y)) (begins_with_letter (images_at ks (drop (i + 1) xs)))) (pieces ks (drop (i + 1) xs))
-      (search-more ps (symbol_pieces expr_pieces (image_at ks y)) behind next-image k)
+      (search-more ps (symbol_pieces expr_pieces (image_at ks y)) after next-image k)
       (searches-gap (ends_in_name (image_at ks y)) (begins_with_letter (images_at ks (drop (i + 1) xs))) o)
 
   pub image-found : {p : ℕ} → Searches x m (symbol_pieces expr_pieces (image_at ks y)) (Err p) → Searches x n ps (Err p)
-  image-found k = search-found ps (symbol_pieces expr_pieces (image_at ks y)) behind next-image k
+  image-found k = search-found ps (symbol_pieces expr_pieces (image_at ks y)) after next-image k
 
 pub images-done : {x : FormalNames} {n m : ℕ} (ks : List Kind) (ps : List Piece) (xs : List ImageSymbol) (i : ℕ) → length xs ≤ i → SearchGoes x n ps m (pieces ks (drop i xs)) → Searches x n ps (Ok m)
 images-done {x = x} {n = n} {m = m} ks ps xs i l h = search-done ps (subst (λ us. SearchGoes x n ps m (pieces ks us)) (drop_all i xs l) h)
@@ -266,8 +266,8 @@ pub rest-count : (ks : List Kind) (r : RuleLine) → count (rest_pieces ks r) �
 rest-count ks r =
     let condition = option_pieces Colon (option_at ks r.condition) in
     let weight = option_pieces At (option_at ks r.weight) in
-    let behind = blank ∷ token Arrow ∷ successor_pieces (images_at ks r.successor.items) in
-    omega (arith, count-append condition (weight ++ behind), count-append weight behind, option-count At Colon (option_at ks r.weight), successor-count (images_at ks r.successor.items))
+    let after = blank ∷ token Arrow ∷ successor_pieces (images_at ks r.successor.items) in
+    omega (arith, count-append condition (weight ++ after), count-append weight after, option-count At Colon (option_at ks r.weight), successor-count (images_at ks r.successor.items))
 
 pub rest-at_condition : {x : FormalNames} {n p : ℕ} (ks : List Kind) (r : RuleLine) → Searches x n (option_pieces Colon (option_at ks r.condition)) (Err p) → Searches x n (rest_pieces ks r) (Err p)
 rest-at_condition ks r h = searches-found (option_pieces Colon (option_at ks r.condition)) (option_pieces At (option_at ks r.weight) ++ blank ∷ token Arrow ∷ successor_pieces (images_at ks r.successor.items)) h
@@ -275,12 +275,12 @@ rest-at_condition ks r h = searches-found (option_pieces Colon (option_at ks r.c
 pub rest-at_weight : {x : FormalNames} {n m p : ℕ} (ks : List Kind) (r : RuleLine) → Searches x n (option_pieces Colon (option_at ks r.condition)) (Ok m) → Searches x m (option_pieces At (option_at ks r.weight)) (Err p) → Searches x n (rest_pieces ks r) (Err p)
 rest-at_weight ks r h k =
     let weight = option_pieces At (option_at ks r.weight) in
-    let behind = blank ∷ token Arrow ∷ successor_pieces (images_at ks r.successor.items) in
-    searches-on (option_pieces Colon (option_at ks r.condition)) (weight ++ behind) h (searches-found weight behind k)
+    let after = blank ∷ token Arrow ∷ successor_pieces (images_at ks r.successor.items) in
+    searches-on (option_pieces Colon (option_at ks r.condition)) (weight ++ after) h (searches-found weight after k)
 
-pub rest-behind : {x : FormalNames} {n m o : ℕ} {result : Result ℕ ℕ} (ks : List Kind) (r : RuleLine) → Searches x n (option_pieces Colon (option_at ks r.condition)) (Ok m) → Searches x m (option_pieces At (option_at ks r.weight)) (Ok o)
+pub rest-after : {x : FormalNames} {n m o : ℕ} {result : Result ℕ ℕ} (ks : List Kind) (r : RuleLine) → Searches x n (option_pieces Colon (option_at ks r.condition)) (Ok m) → Searches x m (option_pieces At (option_at ks r.weight)) (Ok o)
     → Searches x (o + 1) (pieces ks r.successor.items) result → Searches x n (rest_pieces ks r) result
-rest-behind ks r h k l =
+rest-after ks r h k l =
     let weight = option_pieces At (option_at ks r.weight) in
-    let behind = blank ∷ token Arrow ∷ successor_pieces (images_at ks r.successor.items) in
-    searches-on (option_pieces Colon (option_at ks r.condition)) (weight ++ behind) h (searches-on weight behind k (searches-successor (images_at ks r.successor.items) l))
+    let after = blank ∷ token Arrow ∷ successor_pieces (images_at ks r.successor.items) in
+    searches-on (option_pieces Colon (option_at ks r.condition)) (weight ++ after) h (searches-on weight after k (searches-successor (images_at ks r.successor.items) l))

@@ -19,28 +19,28 @@ module _ {b : Counts} {l : RuleCounts} (left predecessor right condition weight 
   at_predecessor i = counts-on left (predecessor ++ (right ++ (condition ++ (weight ++ arrow)))) h (counts-passed predecessor (right ++ (condition ++ (weight ++ arrow))) i)
 
   module _ {p : RuleCounts} (i : Counting l predecessor (Ok p)) where
-    behind_predecessor : {result : Result RuleCounts ℕ} → Counting p (right ++ (condition ++ (weight ++ arrow))) result → CountsOn b all result
-    behind_predecessor j = counts-on left (predecessor ++ (right ++ (condition ++ (weight ++ arrow)))) h (counts-on predecessor (right ++ (condition ++ (weight ++ arrow))) i j)
+    after_predecessor : {result : Result RuleCounts ℕ} → Counting p (right ++ (condition ++ (weight ++ arrow))) result → CountsOn b all result
+    after_predecessor j = counts-on left (predecessor ++ (right ++ (condition ++ (weight ++ arrow)))) h (counts-on predecessor (right ++ (condition ++ (weight ++ arrow))) i j)
 
     pub at_right : {t : ℕ} → Counting p right (Err t) → CountsOn b all (Err t)
-    at_right j = behind_predecessor (counts-passed right (condition ++ (weight ++ arrow)) j)
+    at_right j = after_predecessor (counts-passed right (condition ++ (weight ++ arrow)) j)
 
     module _ {r : RuleCounts} (j : Counting p right (Ok r)) where
       pub at_condition : {t : ℕ} → Counting r condition (Err t) → CountsOn b all (Err t)
-      at_condition k = behind_predecessor (counts-on right (condition ++ (weight ++ arrow)) j (counts-passed condition (weight ++ arrow) k))
+      at_condition k = after_predecessor (counts-on right (condition ++ (weight ++ arrow)) j (counts-passed condition (weight ++ arrow) k))
 
       module _ {c : RuleCounts} (k : Counting r condition (Ok c)) where
-        behind_condition : {result : Result RuleCounts ℕ} → Counting c (weight ++ arrow) result → CountsOn b all result
-        behind_condition m = behind_predecessor (counts-on right (condition ++ (weight ++ arrow)) j (counts-on condition (weight ++ arrow) k m))
+        after_condition : {result : Result RuleCounts ℕ} → Counting c (weight ++ arrow) result → CountsOn b all result
+        after_condition m = after_predecessor (counts-on right (condition ++ (weight ++ arrow)) j (counts-on condition (weight ++ arrow) k m))
 
         pub at_weight : {t : ℕ} → Counting c weight (Err t) → CountsOn b all (Err t)
-        at_weight m = behind_condition (counts-passed weight arrow m)
+        at_weight m = after_condition (counts-passed weight arrow m)
 
         pub at_arrow : {w : RuleCounts} {t : ℕ} → Counting c weight (Ok w) → Counting w (token Arrow ∷ []) (Err t) → CountsOn b all (Err t)
-        at_arrow {w = w} m n = behind_condition (counts-on weight arrow m (counts-on (blank ∷ []) (token Arrow ∷ successor) (counts-blank w) (counts-passed (token Arrow ∷ []) successor n)))
+        at_arrow {w = w} m n = after_condition (counts-on weight arrow m (counts-on (blank ∷ []) (token Arrow ∷ successor) (counts-blank w) (counts-passed (token Arrow ∷ []) successor n)))
 
         pub at_end : {w a : RuleCounts} {result : Result RuleCounts ℕ} → Counting c weight (Ok w) → Counting w (token Arrow ∷ []) (Ok a) → Counting a successor result → CountsOn b all result
-        at_end {w = w} m n o = behind_condition (counts-on weight arrow m (counts-on (blank ∷ []) (token Arrow ∷ successor) (counts-blank w) (counts-on (token Arrow ∷ []) successor n o)))
+        at_end {w = w} m n o = after_condition (counts-on weight arrow m (counts-on (blank ∷ []) (token Arrow ∷ successor) (counts-blank w) (counts-on (token Arrow ∷ []) successor n o)))
 
 pub first-many : (from : ℕ) (ps : List Piece) (result : Result RuleCounts ℕ) → CountsOn rule_counts ps result → passed_or from result (λ c. None) ≡ many_place rule_counts from ps
 first-many from ps result h =

@@ -33,13 +33,13 @@ none_notes : (ws : List Child) → notes_for (none_found ws) ≡ length ws
 none_notes [] = refl
 none_notes (w ∷ ws) = omega (arith, none_notes ws)
 
-params_behind : (ws : List Child) (w : Child) (rest : List Child) → params_for ws + list_room (params_in w.symbol) ≤ params_for (ws ++ w ∷ rest)
-params_behind [] w rest = omega arith
-params_behind (v ∷ ws) w rest = omega (arith, params_behind ws w rest)
+params_after : (ws : List Child) (w : Child) (rest : List Child) → params_for ws + list_room (params_in w.symbol) ≤ params_for (ws ++ w ∷ rest)
+params_after [] w rest = omega arith
+params_after (v ∷ ws) w rest = omega (arith, params_after ws w rest)
 
-whole_behind : (ws : List Child) (w : Child) (rest : List Child) → AreWhole (ws ++ w ∷ rest) → w.symbol ≢ Cut
-whole_behind [] w rest whole = whole.0
-whole_behind (v ∷ ws) w rest whole = whole_behind ws w rest whole.1
+whole_after : (ws : List Child) (w : Child) (rest : List Child) → AreWhole (ws ++ w ∷ rest) → w.symbol ≢ Cut
+whole_after [] w rest whole = whole.0
+whole_after (v ∷ ws) w rest whole = whole_after ws w rest whole.1
 
 pub split_at : (ws : List Child) (i : ℕ) (w : Child) → slice_get ws i ≡ Some w → ws ≡ take i ws ++ w ∷ drop (i + 1) ws
 split_at [] i w h = absurd (none-some w h)
@@ -81,9 +81,9 @@ module _ {A : Type 0} where
       let long : length all ≡ length ws + suc (length rest) = ap length is ∙ length-append ws (w ∷ rest) in
       record {
         parent_lives = subst IsSome (sym (born.places.changes.others parent born.places.other)) can.parent_lives;
-        whole = whole_behind ws w rest (subst AreWhole is can.whole);
+        whole = whole_after ws w rest (subst AreWhole is can.whole);
         nodes = omega (arith, can.nodes, spends.nodes_left, none_births all, none_births ws, long);
-        params = omega (arith, can.params, spends.params_left, ap params_for is, params_behind ws w rest);
+        params = omega (arith, can.params, spends.params_left, ap params_for is, params_after ws w rest);
         notes = omega (arith, can.notes, spends.notes_left, none_notes all, none_notes ws, long);
         told = omega (arith, can.told, born.told.room, born.places.long, long);
         found = λ k e. absurd (none-some k e);

@@ -4,7 +4,7 @@ use Rattle.std.specs.Prelude.{slice_get}
 use Rattle.std.proofs.lemmas.List.{drop_all}
 use Rattle.lsys_syntax.specs.Commands.{by_place}
 use Rattle.lsys_spec.specs.Numbers.{code_of}
-use Rattle.lsys_rewrite.specs.Cutting.{symbol_stays, cutting_behind}
+use Rattle.lsys_rewrite.specs.Cutting.{symbol_stays, next_cutting}
 use Rattle.lsys_module.specs.Views.{symbol_of}
 use Rattle.lsys_module.specs.declared.symbol.Symbol.{Symbol}
 use Rattle.lsys_forest.specs.Groves.{Grove, IsLive, now_of}
@@ -32,20 +32,20 @@ module _ {A : Type 0} where
 
   module _ (f now : Grove A) (parent key : ℕ) (ss : List Symbol) (i : ℕ) (o : Option ℕ) (t t' : ToldNodes) (s : Symbol) (there : slice_get ss i ≡ Some s) (is : IsBearing f now parent key ss i o t t') where
     abbrev rest : List Child
-    rest = wanted_from by_place key (i + 1) (code_of (symbol_of s) ∷ is.before) (cutting_behind o (symbol_of s)) (drop (i + 1) ss)
+    rest = wanted_from by_place key (i + 1) (code_of (symbol_of s) ∷ is.before) (next_cutting o (symbol_of s)) (drop (i + 1) ss)
 
     split : (b : Bool) → symbol_stays o (symbol_of s) ≡ b → is.children ++ (child_if b (child_there key i s) ++ rest) ≡ wanted_from by_place key 0 [] None ss
     split b e =
         ap (λ b. is.children ++ (child_if b (child_there key i s) ++ rest)) (sym e) ∙ ap (λ rest. is.children ++ wanted_from by_place key i is.before o rest) (sym (drop_at ss i s there)) ∙ is.all
 
-    pub bearing_skip : symbol_stays o (symbol_of s) ≡ false → IsBearing f now parent key ss (i + 1) (cutting_behind o (symbol_of s)) t t'
+    pub bearing_skip : symbol_stays o (symbol_of s) ≡ false → IsBearing f now parent key ss (i + 1) (next_cutting o (symbol_of s)) t t'
     bearing_skip e = record { before = code_of (symbol_of s) ∷ is.before; children = is.children; all = split false e; born = is.born }
 
     pub bearing_can : CanPlaceAll f parent (wanted_from by_place key 0 [] None ss) (none_found (wanted_from by_place key 0 [] None ss)) t → symbol_stays o (symbol_of s) ≡ true → CanPlace now parent (child_there key i s) None t'
     bearing_can can e = can_bear f now parent (wanted_from by_place key 0 [] None ss) is.children (child_there key i s) rest t t' can (sym (split true e)) is.born
 
     pub bearing_next : (new : Grove A) (k : ℕ) (t'' : ToldNodes) → IsLive f parent → symbol_stays o (symbol_of s) ≡ true → IsPlaced now new parent (child_there key i s) None k → TellsNodes (now_of now) (now_of new) (k ∷ []) t' t''
-        → t''.added ≡ t'.added ++ k ∷ [] → IsBearing f new parent key ss (i + 1) (cutting_behind o (symbol_of s)) t t''
+        → t''.added ≡ t'.added ++ k ∷ [] → IsBearing f new parent key ss (i + 1) (next_cutting o (symbol_of s)) t t''
     bearing_next new k t'' lives e one told added = record {
       before = code_of (symbol_of s) ∷ is.before;
       children = is.children ++ child_there key i s ∷ [];

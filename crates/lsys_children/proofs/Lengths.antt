@@ -27,7 +27,7 @@ use Rattle.lsys_reads.specs.Lineages.{names}
 use Rattle.lsys_reads.specs.Levels.{level_of}
 use Rattle.lsys_reads.specs.Meant.{meant_to}
 use Rattle.lsys_children.specs.Wishes.{child_symbol, AreWanted}
-use Rattle.lsys_children.specs.Nexts.{Successors, node_symbol, node_kind, wanted_behind, HasWanted, AreClosed, wanted_in, wanted_count, count_wanted, HaveSuccessors}
+use Rattle.lsys_children.specs.Nexts.{Successors, node_symbol, node_kind, wanted_after, HasWanted, AreClosed, wanted_in, wanted_count, count_wanted, HaveSuccessors}
 use Rattle.lsys_children.proofs.Nexts.{kind_with, level_symbols, last_there, all_replaced}
 use Rattle.lsys_children.proofs.Walks.{same_yes, same_not, none_reached}
 use Rattle.lsys_children.proofs.Refused.{over_to}
@@ -129,11 +129,11 @@ module _ {A : Type 0} where
       let a : L.LevelSymbol = node_symbol m k in
       let kind : kinds.kind_of_symbol a ≡ node_kind m k = kind_with (names m (spot_in k (m k)).tag) (spot_in k (m k)).seen in
       let next : Option ℕ = reached o (node_kind m k) (is_open (by k)) in
-      let front : length (cond (stays o (node_kind m k)) (own_children g a (by k)) []) ≡ wanted_count g (wanted_behind o (node_kind m k) (by k)) = own (stays o (node_kind m k)) in
-      let first : wanted_in m by o (k ∷ ks) k ≡ wanted_behind o (node_kind m k) (by k) = ap (λ b. cond b (wanted_behind o (node_kind m k) (by k)) (wanted_in m by next ks k)) (same_yes k) in
+      let front : length (cond (stays o (node_kind m k)) (own_children g a (by k)) []) ≡ wanted_count g (wanted_after o (node_kind m k) (by k)) = own (stays o (node_kind m k)) in
+      let first : wanted_in m by o (k ∷ ks) k ≡ wanted_after o (node_kind m k) (by k) = ap (λ b. cond b (wanted_after o (node_kind m k) (by k)) (wanted_in m by next ks k)) (same_yes k) in
       let others : sum_by (λ j. wanted_count g (wanted_in m by o (k ∷ ks) j)) ks ≡ sum_by (λ j. wanted_count g (wanted_in m by next ks j)) ks =
       sum_same (λ j. wanted_count g (wanted_in m by o (k ∷ ks) j)) (λ j. wanted_count g (wanted_in m by next ks j)) ks
-      (λ j i. ap (λ b. wanted_count g (cond b (wanted_behind o (node_kind m k) (by k)) (wanted_in m by next ks j))) (same_not j k (λ e. apart.0 (subst (λ x. In x ks) e i)))) in
+      (λ j i. ap (λ b. wanted_count g (cond b (wanted_after o (node_kind m k) (by k)) (wanted_in m by next ks j))) (same_not j k (λ e. apart.0 (subst (λ x. In x ks) e i)))) in
       ap (λ b. length (cond (stays o b) (own_children g a (by k)) [] ++ row g (reached o b (is_open (by k))) (map (node_symbol m) ks) (map by ks))) kind
       ∙ length-append (cond (stays o (node_kind m k)) (own_children g a (by k)) []) (row g next (map (node_symbol m) ks) (map by ks))
       ∙ ap (λ n. n + length (row g next (map (node_symbol m) ks) (map by ks))) (front ∙ ap (wanted_count g) (sym first))

@@ -212,9 +212,9 @@ taken_next first now next qs at x found result apart here was is left = record {
 
 -- 5. nodes that have the numbers that are wanted, in order
 
-none_behind : (o : Option ℕ) → some_or o None ≡ o
-none_behind None = refl
-none_behind (Some k) = refl
+none_after : (o : Option ℕ) → some_or o None ≡ o
+none_after None = refl
+none_after (Some k) = refl
 
 module _ {A : Type 0} where
   numbered_none : (m : Nodes A) (xs : List ℕ) (q : Number) → has_number (map (number_of m) xs) q ≡ false → node_numbered m xs q ≡ None
@@ -224,14 +224,14 @@ module _ {A : Type 0} where
       ap (λ u. some_or u (cond (same_child_number (number_of m x) q) (Some x) None)) (numbered_none m xs q o.1)
       ∙ ap (λ b. cond b (Some x) None) o.0
 
-  found_behind : (m : Nodes A) (k : ℕ) (ks : List ℕ) (qs : List Number) → has_number qs (number_of m k) ≡ false → map (node_numbered m (k ∷ ks)) qs ≡ map (node_numbered m ks) qs
-  found_behind m k ks [] h = refl
-  found_behind m k ks (q ∷ qs) h =
+  found_after : (m : Nodes A) (k : ℕ) (ks : List ℕ) (qs : List Number) → has_number qs (number_of m k) ≡ false → map (node_numbered m (k ∷ ks)) qs ≡ map (node_numbered m ks) qs
+  found_after m k ks [] h = refl
+  found_after m k ks (q ∷ qs) h =
       let o = or_parts (same_child_number q (number_of m k)) (has_number qs (number_of m k)) h in
       let e : node_numbered m (k ∷ ks) q ≡ node_numbered m ks q =
       ap (λ b. some_or (node_numbered m ks q) (cond b (Some k) None)) (same_sym (number_of m k) q ∙ o.0)
-      ∙ none_behind (node_numbered m ks q) in
-      ap (λ u. u ∷ map (node_numbered m (k ∷ ks)) qs) e ∙ ap (λ l. node_numbered m ks q ∷ l) (found_behind m k ks qs o.1)
+      ∙ none_after (node_numbered m ks q) in
+      ap (λ u. u ∷ map (node_numbered m (k ∷ ks)) qs) e ∙ ap (λ l. node_numbered m ks q ∷ l) (found_after m k ks qs o.1)
 
   found_same : (m : Nodes A) (ks : List ℕ) → AreDifferent (map (number_of m) ks) → map (node_numbered m ks) (map (number_of m) ks) ≡ map Some ks
   found_same m [] a = refl
@@ -241,7 +241,7 @@ module _ {A : Type 0} where
       ap (λ u. some_or u (cond (same_child_number q q) (Some k) None)) (numbered_none m ks q a.0)
       ∙ ap (λ b. cond b (Some k) None) (same_self q) in
       ap (λ u. u ∷ map (node_numbered m (k ∷ ks)) (map (number_of m) ks)) here
-      ∙ ap (λ l. Some k ∷ l) (found_behind m k ks (map (number_of m) ks) a.0 ∙ found_same m ks a.1)
+      ∙ ap (λ l. Some k ∷ l) (found_after m k ks (map (number_of m) ks) a.0 ∙ found_same m ks a.1)
 
   has_own : (m : Nodes A) (xs : List ℕ) (k : ℕ) → In k xs → has_number (map (number_of m) xs) (number_of m k) ≡ true
   has_own m [] k h = absurd h

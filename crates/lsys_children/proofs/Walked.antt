@@ -7,7 +7,7 @@ use Rattle.lsys_laws.specs.Kinds.{stays, reached}
 use Rattle.lsys_laws.specs.Children.{is_open}
 use Rattle.lsys_forest.specs.Nodes.{Nodes}
 use Rattle.lsys_match.specs.Kept.{Kept}
-use Rattle.lsys_children.specs.Nexts.{Successors, node_kind, wanted_behind, wanted_in}
+use Rattle.lsys_children.specs.Nexts.{Successors, node_kind, wanted_after, wanted_in}
 use Rattle.lsys_children.specs.Answers.{kept_successors}
 use Rattle.lsys_children.proofs.Walks.{same_yes, same_not}
 use Rattle.lsys_children.specs.Parents.{nodes_in, AreToldBy, cut_parents, uncut}
@@ -32,12 +32,12 @@ told : (m : Nodes Kept) (by : Successors) (o : Option ℕ) (ks : List ℕ) → A
 told m by o [] a e = tt
 told m by o (k ∷ ks) a e = (e k (inl refl) ∙ here ∙ turned (stays o (node_kind m k)) (kept_successors m k), told m by (reached o (node_kind m k) (is_open (kept_successors m k))) ks a.1 (λ j i. e j (inr i) ∙ later j i))
   where
-    here : wanted_in m (kept_successors m) o (k ∷ ks) k ≡ wanted_behind o (node_kind m k) (kept_successors m k)
-    here = ap (λ b. if b then wanted_behind o (node_kind m k) (kept_successors m k) else wanted_in m (kept_successors m) (reached o (node_kind m k) (is_open (kept_successors m k))) ks k) (same_yes k)
+    here : wanted_in m (kept_successors m) o (k ∷ ks) k ≡ wanted_after o (node_kind m k) (kept_successors m k)
+    here = ap (λ b. if b then wanted_after o (node_kind m k) (kept_successors m k) else wanted_in m (kept_successors m) (reached o (node_kind m k) (is_open (kept_successors m k))) ks k) (same_yes k)
 
     later : (j : ℕ) → In j ks → wanted_in m (kept_successors m) o (k ∷ ks) j ≡ wanted_in m (kept_successors m) (reached o (node_kind m k) (is_open (kept_successors m k))) ks j
     later j i =
-        ap (λ b. if b then wanted_behind o (node_kind m k) (kept_successors m k) else wanted_in m (kept_successors m) (reached o (node_kind m k) (is_open (kept_successors m k))) ks j)
+        ap (λ b. if b then wanted_after o (node_kind m k) (kept_successors m k) else wanted_in m (kept_successors m) (reached o (node_kind m k) (is_open (kept_successors m k))) ks j)
         (same_not j k (λ f. a.0 (subst (λ n. In n ks) f i)))
 
 pub walked_told : (m : Nodes Kept) (ks : List ℕ) → AreApart ks → AreToldBy (wanted_in m (kept_successors m) None ks) m (cut_parents m None ks)

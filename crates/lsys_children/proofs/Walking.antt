@@ -16,17 +16,17 @@ use Rattle.lsys_children.specs.declared.parent.Parent.{Parent}
 use Rattle.lsys_children.specs.Parents.{cut_parents}
 
 -- what is being cut off after these nodes
-abbrev pub cut_behind : Nodes Kept → Option ℕ → List ℕ → Option ℕ
-cut_behind m o [] = o
-cut_behind m o (k ∷ ks) = cut_behind m (reached o (node_kind m k) (is_open (kept_successors m k))) ks
+abbrev pub cut_after : Nodes Kept → Option ℕ → List ℕ → Option ℕ
+cut_after m o [] = o
+cut_after m o (k ∷ ks) = cut_after m (reached o (node_kind m k) (is_open (kept_successors m k))) ks
 
-behind_push : (m : Nodes Kept) (o : Option ℕ) (ks : List ℕ) (k : ℕ)
-    → cut_behind m o (ks ++ k ∷ []) ≡ reached (cut_behind m o ks) (node_kind m k) (is_open (kept_successors m k))
-behind_push m o [] k = refl
-behind_push m o (j ∷ ks) k = behind_push m (reached o (node_kind m j) (is_open (kept_successors m j))) ks k
+after_push : (m : Nodes Kept) (o : Option ℕ) (ks : List ℕ) (k : ℕ)
+    → cut_after m o (ks ++ k ∷ []) ≡ reached (cut_after m o ks) (node_kind m k) (is_open (kept_successors m k))
+after_push m o [] k = refl
+after_push m o (j ∷ ks) k = after_push m (reached o (node_kind m j) (is_open (kept_successors m j))) ks k
 
 walked_push : (m : Nodes Kept) (o : Option ℕ) (ks : List ℕ) (k : ℕ)
-    → cut_parents m o (ks ++ k ∷ []) ≡ cut_parents m o ks ++ record { node = k; is_cut = not (stays (cut_behind m o ks) (node_kind m k)) } ∷ []
+    → cut_parents m o (ks ++ k ∷ []) ≡ cut_parents m o ks ++ record { node = k; is_cut = not (stays (cut_after m o ks) (node_kind m k)) } ∷ []
 walked_push m o [] k = refl
 walked_push m o (j ∷ ks) k = ap (λ (l : List Parent). record { node = j; is_cut = not (stays o (node_kind m j)) } ∷ l) (walked_push m (reached o (node_kind m j) (is_open (kept_successors m j))) ks k)
 
@@ -38,14 +38,14 @@ closed_push m (j ∷ ks) k a h = (a.0, closed_push m ks k a.1 h)
 -- So many nodes of a level were walked.
 pub record IsWalked (m : Nodes Kept) (ks : List ℕ) (i : ℕ) (before after : List Parent) (cutting : Option ℕ) (opens : Bool) : Type 0 where
   pub parents : after ≡ before ++ cut_parents m None (take i ks)
-  pub cut : cutting ≡ cut_behind m None (take i ks)
+  pub cut : cutting ≡ cut_after m None (take i ks)
   pub few : IfSome cutting (λ branches. branches ≤ i)
   pub closed : opens ≡ false → AreClosed (kept_successors m) (take i ks)
 
 pub walk_begins : (m : Nodes Kept) (ks : List ℕ) (before : List Parent) → IsWalked m ks 0 before before None false
 walk_begins m ks before = record {
   parents = sym (append-nil before) ∙ ap (λ (xs : List ℕ). before ++ cut_parents m None xs) (sym (take_none ks));
-  cut = ap (cut_behind m None) (sym (take_none ks));
+  cut = ap (cut_after m None) (sym (take_none ks));
   few = tt;
   closed = λ e. subst (AreClosed (kept_successors m)) (sym (take_none ks)) tt;
 }
@@ -87,7 +87,7 @@ walk_goes_on m ks i k before after cutting next opens one both p w here e f g fe
       ∙ ap (λ (q : Parent). before ++ (cut_parents m None (take i ks) ++ q ∷ [])) (f ∙ ap (λ o. record { node = k; is_cut = not (stays o (node_kind m k)) }) w.cut)
       ∙ ap (λ (l : List Parent). before ++ l) (sym (walked_push m None (take i ks) k))
       ∙ ap (λ (xs : List ℕ). before ++ cut_parents m None xs) (sym more);
-  cut = g ∙ ap (λ o. reached o (node_kind m k) one) w.cut ∙ ap (reached (cut_behind m None (take i ks)) (node_kind m k)) e ∙ sym (behind_push m None (take i ks) k) ∙ ap (cut_behind m None) (sym more);
+  cut = g ∙ ap (λ o. reached o (node_kind m k) one) w.cut ∙ ap (reached (cut_after m None (take i ks)) (node_kind m k)) e ∙ sym (after_push m None (take i ks) k) ∙ ap (cut_after m None) (sym more);
   few = few;
   closed = λ none.
       let n = neither opens one (sym h ∙ none) in

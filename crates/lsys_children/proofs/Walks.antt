@@ -15,7 +15,7 @@ use Rattle.lsys_forest.specs.Groves.{IsRooted}
 use Rattle.lsys_forest.specs.Rows.{kids_in, spot_in, level_nodes}
 use Rattle.lsys_forest.proofs.RowLemmas as rows
 use Rattle.lsys_children.specs.Children.{bracket_kind}
-use Rattle.lsys_children.specs.Nexts.{Successors, node_kind, wanted_behind, HasWanted, HaveWanted, AreClosed, wanted_in}
+use Rattle.lsys_children.specs.Nexts.{Successors, node_kind, wanted_after, HasWanted, HaveWanted, AreClosed, wanted_in}
 use Rattle.lsys_children.specs.Renewals.{Renewal, stayed, relisted, turned, came, AreRenewals}
 use Rattle.lsys_children.proofs.Above.{name_stays, upper_nodes}
 use Rattle.lsys_children.proofs.Wants.{wanted_stays}
@@ -46,9 +46,9 @@ module _ {A : Type 0} where
   pub walk : (g : Numbering) (seed : ℕ) (m : Nodes A) (by : Successors) (o : Option ℕ) (ks : List ℕ) → AreApart ks → ((k : ℕ) → In k ks → HasWanted g seed m k (wanted_in m by o ks k)) → HaveWanted g seed m by o ks
   walk g seed m by o [] apart h = tt
   walk g seed m by o (k ∷ ks) apart h = (
-    subst (HasWanted g seed m k) (ap (λ b. cond b (wanted_behind o (node_kind m k) (by k)) (wanted_in m by (reached o (node_kind m k) (is_open (by k))) ks k)) (same_yes k)) (h k (inl refl)),
+    subst (HasWanted g seed m k) (ap (λ b. cond b (wanted_after o (node_kind m k) (by k)) (wanted_in m by (reached o (node_kind m k) (is_open (by k))) ks k)) (same_yes k)) (h k (inl refl)),
     walk g seed m by (reached o (node_kind m k) (is_open (by k))) ks apart.1 (λ j i.
-        subst (HasWanted g seed m j) (ap (λ b. cond b (wanted_behind o (node_kind m k) (by k)) (wanted_in m by (reached o (node_kind m k) (is_open (by k))) ks j)) (same_not j k (λ e. apart.0 (subst (λ x. In x ks) e i)))) (h j (inr i))),
+        subst (HasWanted g seed m j) (ap (λ b. cond b (wanted_after o (node_kind m k) (by k)) (wanted_in m by (reached o (node_kind m k) (is_open (by k))) ks j)) (same_not j k (λ e. apart.0 (subst (λ x. In x ks) e i)))) (h j (inr i))),
   )
 
   -- and so has each of them
@@ -62,8 +62,8 @@ module _ {A : Type 0} where
   wanted_same old new by o [] k h = refl
   wanted_same old new by o (j ∷ js) k h =
       let kind : node_kind new j ≡ node_kind old j = ap (λ (s : Spotted). bracket_kind s.seen) (h j (inl refl)) in
-      ap (λ b. cond (nat_eq k j) (wanted_behind o b (by j)) (wanted_in new by (reached o b (is_open (by j))) js k)) kind
-      ∙ ap (λ zs. cond (nat_eq k j) (wanted_behind o (node_kind old j) (by j)) zs) (wanted_same old new by (reached o (node_kind old j) (is_open (by j))) js k (λ i l. h i (inr l)))
+      ap (λ b. cond (nat_eq k j) (wanted_after o b (by j)) (wanted_in new by (reached o b (is_open (by j))) js k)) kind
+      ∙ ap (λ zs. cond (nat_eq k j) (wanted_after o (node_kind old j) (by j)) zs) (wanted_same old new by (reached o (node_kind old j) (is_open (by j))) js k (λ i l. h i (inr l)))
 
   -- the children of a parent whose turn has not come stay
   pub kids_stay : (root : ℕ) (changes : List (Change A)) (g : Numbering) (seed : ℕ) (old new : Nodes A) (depth : ℕ) (by : Successors) (done : List ℕ) (k : ℕ) (n : Node A) → IsRooted root changes old

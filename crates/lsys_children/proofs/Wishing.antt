@@ -12,7 +12,7 @@ use Rattle.lsys_spec.specs.Cuts.{cut_on}
 use Rattle.lsys_spec.specs.Numbers.{code_of, number_at}
 use Rattle.lsys_spec.specs.Meaning.{numbered}
 use Rattle.lsys_laws.specs.Children.{cutting_after, is_open}
-use Rattle.lsys_rewrite.specs.Cutting.{symbol_stays, cutting_behind}
+use Rattle.lsys_rewrite.specs.Cutting.{symbol_stays, next_cutting}
 use Rattle.lsys_module.specs.Views.{symbol_of, string_of, module_name}
 use Rattle.lsys_module.specs.declared.symbol.Symbol.{Symbol}
 use Rattle.lsys_module.specs.declared.symbol.Symbol.TheVariants as code
@@ -27,7 +27,7 @@ use Rattle.lsys_children.specs.Wishes.{child_number, child_symbol, AreWanted}
 
 abbrev pub cutting_past : Option ℕ → List Symbol → Option ℕ
 cutting_past o [] = o
-cutting_past o (s ∷ ss) = cutting_past (cutting_behind o (symbol_of s)) ss
+cutting_past o (s ∷ ss) = cutting_past (next_cutting o (symbol_of s)) ss
 
 -- 2. their symbols
 
@@ -85,7 +85,7 @@ each_if P false w ws h k = k
 keys_from : (g : Numbering) (key : ℕ) (ss : List Symbol) (n : ℕ) (before : List ℕ) (o : Option ℕ) → Each (λ w. w.key ≡ child_key_of key (child_number w)) (wanted_from g key n before o ss)
 keys_from g key [] n before o = tt
 keys_from g key (s ∷ ss) n before o =
-    each_if (λ w. w.key ≡ child_key_of key (child_number w)) (symbol_stays o (symbol_of s)) (child_at g key n before s) _ (λ e. refl) (keys_from g key ss (n + 1) (code_of (symbol_of s) ∷ before) (cutting_behind o (symbol_of s)))
+    each_if (λ w. w.key ≡ child_key_of key (child_number w)) (symbol_stays o (symbol_of s)) (child_at g key n before s) _ (λ e. refl) (keys_from g key ss (n + 1) (code_of (symbol_of s) ∷ before) (next_cutting o (symbol_of s)))
 
 count_few : (g : Numbering) (n : ℕ) (before : List ℕ) (c : ℕ) → length before ≡ n → (numbered_at g n before c).count ≤ n
 count_few by_place n before c e = omega arith
@@ -98,7 +98,7 @@ small_from : (g : Numbering) (key : ℕ) (ss : List Symbol) (n : ℕ) (before : 
 small_from g key [] n before o e l = tt
 small_from g key (s ∷ ss) n before o e l =
     each_if (λ w. w.number.count < number_base) (symbol_stays o (symbol_of s)) (child_at g key n before s) _ (λ b. small_at g n before (code_of (symbol_of s)) e (omega (arith, l)))
-    (small_from g key ss (n + 1) (code_of (symbol_of s) ∷ before) (cutting_behind o (symbol_of s)) (omega (arith, e)) (omega (arith, l)))
+    (small_from g key ss (n + 1) (code_of (symbol_of s) ∷ before) (next_cutting o (symbol_of s)) (omega (arith, e)) (omega (arith, l)))
 
 no_cut : (o : Option ℕ) (s : Symbol) → symbol_stays o (symbol_of s) ≡ true → s ≢ code.Cut
 no_cut None code.Push h e = cc
@@ -120,7 +120,7 @@ whole_if false w ws h k = k
 
 whole_from : (g : Numbering) (key : ℕ) (ss : List Symbol) (n : ℕ) (before : List ℕ) (o : Option ℕ) → AreWhole (wanted_from g key n before o ss)
 whole_from g key [] n before o = tt
-whole_from g key (s ∷ ss) n before o = whole_if (symbol_stays o (symbol_of s)) (child_at g key n before s) _ (no_cut o s) (whole_from g key ss (n + 1) (code_of (symbol_of s) ∷ before) (cutting_behind o (symbol_of s)))
+whole_from g key (s ∷ ss) n before o = whole_if (symbol_stays o (symbol_of s)) (child_at g key n before s) _ (no_cut o s) (whole_from g key ss (n + 1) (code_of (symbol_of s) ∷ before) (next_cutting o (symbol_of s)))
 
 few_if : (b : Bool) (w : Child) (ws : List Child) (k : ℕ) → length ws ≤ k → length (child_if b w ++ ws) ≤ suc k
 few_if true w ws k h = omega (arith, h)
@@ -129,7 +129,7 @@ few_if false w ws k h = omega (arith, h)
 few_from : (g : Numbering) (key : ℕ) (ss : List Symbol) (n : ℕ) (before : List ℕ) (o : Option ℕ) → length (wanted_from g key n before o ss) ≤ length (string_of ss)
 few_from g key [] n before o = omega arith
 few_from g key (s ∷ ss) n before o =
-    few_if (symbol_stays o (symbol_of s)) (child_at g key n before s) _ (length (string_of ss)) (few_from g key ss (n + 1) (code_of (symbol_of s) ∷ before) (cutting_behind o (symbol_of s)))
+    few_if (symbol_stays o (symbol_of s)) (child_at g key n before s) _ (length (string_of ss)) (few_from g key ss (n + 1) (code_of (symbol_of s) ∷ before) (next_cutting o (symbol_of s)))
 
 -- 5. no number comes twice
 
@@ -154,7 +154,7 @@ all_come g key [] n before o = tt
 all_come g key (s ∷ ss) n before o =
     let c = code_of (symbol_of s) in
     each_if (λ w. MayCome g n before w.number) (symbol_stays o (symbol_of s)) (child_at g key n before s) _ (λ e. comes_now g n before c)
-    (all_weaker _ _ _ (λ w h. comes_later g n before c w.number h) (all_come g key ss (n + 1) (c ∷ before) (cutting_behind o (symbol_of s))))
+    (all_weaker _ _ _ (λ w h. comes_later g n before c w.number h) (all_come g key ss (n + 1) (c ∷ before) (next_cutting o (symbol_of s))))
   where
     all_weaker : (P Q : Child → Type 0) (ws : List Child) → ((w : Child) → P w → Q w) → Each P ws → Each Q ws
     all_weaker P Q [] f h = tt
@@ -192,8 +192,8 @@ apart_from : (g : Numbering) (key : ℕ) (ss : List Symbol) (n : ℕ) (before : 
 apart_from g key [] n before o = tt
 apart_from g key (s ∷ ss) n before o =
     let c = code_of (symbol_of s) in
-    apart_if (symbol_stays o (symbol_of s)) (child_at g key n before s) _ (not_later g n before c _ (all_come g key ss (n + 1) (c ∷ before) (cutting_behind o (symbol_of s))))
-    (apart_from g key ss (n + 1) (c ∷ before) (cutting_behind o (symbol_of s)))
+    apart_if (symbol_stays o (symbol_of s)) (child_at g key n before s) _ (not_later g n before c _ (all_come g key ss (n + 1) (c ∷ before) (next_cutting o (symbol_of s))))
+    (apart_from g key ss (n + 1) (c ∷ before) (next_cutting o (symbol_of s)))
 
 -- 6. all of them
 

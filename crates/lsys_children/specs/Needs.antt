@@ -6,7 +6,7 @@ use Rattle.lsys_spec.specs.Draws.{number_base}
 use Rattle.lsys_spec.specs.Levels as L
 use Rattle.lsys_spec.specs.Cuts.{cut}
 use Rattle.lsys_spec.specs.Meaning.{children}
-use Rattle.lsys_rewrite.specs.Cutting.{symbol_stays, cutting_behind}
+use Rattle.lsys_rewrite.specs.Cutting.{symbol_stays, next_cutting}
 use Rattle.lsys_region.specs.Rooms.{room_of, list_room}
 use Rattle.lsys_forest.specs.Nodes.{Nodes}
 use Rattle.lsys_forest.specs.Rows.{kids_in}
@@ -100,7 +100,7 @@ count_of_all g m ps = record { need = needs g m ps; wanted = wanted_of_all g m p
 -- those take.
 abbrev pub staying_count : Option ℕ → List (S.Symbol ℤ) → ℕ
 staying_count o [] = 0
-staying_count o (z ∷ zs) = cond (symbol_stays o z) 1 0 + staying_count (cutting_behind o z) zs
+staying_count o (z ∷ zs) = cond (symbol_stays o z) 1 0 + staying_count (next_cutting o z) zs
 
 abbrev pub plain_room : S.Symbol ℤ → ℕ
 plain_room (S.Module v ps) = list_room ps
@@ -108,7 +108,7 @@ plain_room z = 0
 
 abbrev pub staying_room : Option ℕ → List (S.Symbol ℤ) → ℕ
 staying_room o [] = 0
-staying_room o (z ∷ zs) = cond (symbol_stays o z) (plain_room z) 0 + staying_room (cutting_behind o z) zs
+staying_room o (z ∷ zs) = cond (symbol_stays o z) (plain_room z) 0 + staying_room (next_cutting o z) zs
 
 -- what the step takes for so many new children, whose parameters take so much room, of a parent that has none; and for those
 -- that a successor wants, by whatever numbering

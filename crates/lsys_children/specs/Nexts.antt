@@ -28,8 +28,8 @@ abbrev pub Successors : Type 0
 Successors = ℕ → List (S.Symbol ℤ)
 
 -- what a node's successor wants of it, after what is being cut off: nothing where its children are cut off
-abbrev pub wanted_behind : Option ℕ → BracketKind → List (S.Symbol ℤ) → List (S.Symbol ℤ)
-wanted_behind o kind zs = if stays o kind then zs else []
+abbrev pub wanted_after : Option ℕ → BracketKind → List (S.Symbol ℤ) → List (S.Symbol ℤ)
+wanted_after o kind zs = if stays o kind then zs else []
 
 -- no cut reaches what stands after the children of one of them
 abbrev pub AreClosed : Successors → List ℕ → Type 0
@@ -72,14 +72,14 @@ module _ {A : Type 0} where
   abbrev pub HaveWanted : Numbering → ℕ → Nodes A → Successors → Option ℕ → List ℕ → Type 0
   HaveWanted g seed m by o [] = Unit {0}
   HaveWanted g seed m by o (k ∷ ks) =
-      HasWanted g seed m k (wanted_behind o (node_kind m k) (by k))
+      HasWanted g seed m k (wanted_after o (node_kind m k) (by k))
       × HaveWanted g seed m by (reached o (node_kind m k) (is_open (by k))) ks
 
   -- what a walk of these nodes finds to be wanted of one of them
   abbrev pub wanted_in : Nodes A → Successors → Option ℕ → List ℕ → Successors
   wanted_in m by o [] k = []
   wanted_in m by o (j ∷ js) k =
-      if nat_eq k j then wanted_behind o (node_kind m j) (by j)
+      if nat_eq k j then wanted_after o (node_kind m j) (by j)
       else wanted_in m by (reached o (node_kind m j) (is_open (by j))) js k
 
   -- how many children all of them want

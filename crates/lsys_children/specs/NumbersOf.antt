@@ -8,7 +8,7 @@ use Rattle.lsys_spec.specs.Draws.{number_base, child_key_of}
 use Rattle.lsys_spec.specs.Numbers.{code_of}
 use Rattle.lsys_reading.specs.declared.parts.Lineage.TheVariants as code
 use Rattle.lsys_reading.specs.Commands.{numbering_of}
-use Rattle.lsys_rewrite.specs.Cutting.{symbol_stays, cutting_behind}
+use Rattle.lsys_rewrite.specs.Cutting.{symbol_stays, next_cutting}
 use Rattle.lsys_module.specs.Views.{symbol_of}
 use Rattle.lsys_module.specs.declared.symbol.Symbol.{Symbol}
 use Rattle.lsys_children.specs.declared.number.Number.{Number}
@@ -46,14 +46,14 @@ child_at g key n before s = child_of key (numbered_at g n before (code_of (symbo
 abbrev pub wanted_from : Numbering → ℕ → ℕ → List ℕ → Option ℕ → List Symbol → List Child
 wanted_from g key n before o [] = []
 wanted_from g key n before o (s ∷ ss) =
-    child_if (symbol_stays o (symbol_of s)) (child_at g key n before s) ++ wanted_from g key (n + 1) (code_of (symbol_of s) ∷ before) (cutting_behind o (symbol_of s)) ss
+    child_if (symbol_stays o (symbol_of s)) (child_at g key n before s) ++ wanted_from g key (n + 1) (code_of (symbol_of s) ∷ before) (next_cutting o (symbol_of s)) ss
 
 -- the children among all symbols of a successor, numbered by their places
 abbrev pub staying : ℕ → List Symbol → List Child
 staying key ss = wanted_from by_place key 0 [] None ss
 
 -- n symbols were numbered, with these codes
-pub record IsBehind (n : ℕ) (before : List ℕ) (a : SuccessorNumbers) : Type 0 where
+pub record IsAfter (n : ℕ) (before : List ℕ) (a : SuccessorNumbers) : Type 0 where
   pub symbols : a.symbols ≡ n
   pub length : length before ≡ n
   pub counts : a.numbering ≡ code.Names
@@ -62,14 +62,14 @@ pub record IsBehind (n : ℕ) (before : List ℕ) (a : SuccessorNumbers) : Type 
 -- this is the number of the next symbol, which has this code
 abbrev pub IsNumberOf : SuccessorNumbers → ℕ → Number → Type 0
 IsNumberOf a c number =
-    (n : ℕ) (before : List ℕ) → IsBehind n before a
+    (n : ℕ) (before : List ℕ) → IsAfter n before a
     → number ≡ numbered_at (numbering_of a.numbering) n before c
 
 -- one symbol more was numbered, with this code
-abbrev pub GoesBehind : SuccessorNumbers → SuccessorNumbers → ℕ → Type 0
-GoesBehind old new c =
-    (n : ℕ) (before : List ℕ) → IsBehind n before old → IsBehind (n + 1) (c ∷ before) new
+abbrev pub GoesAfter : SuccessorNumbers → SuccessorNumbers → ℕ → Type 0
+GoesAfter old new c =
+    (n : ℕ) (before : List ℕ) → IsAfter n before old → IsAfter (n + 1) (c ∷ before) new
 
 -- fewer were numbered than there are numbers for a code
 abbrev pub AreFew : SuccessorNumbers → Type 0
-AreFew a = (n : ℕ) × (before : List ℕ) × IsBehind n before a × (n < number_base)
+AreFew a = (n : ℕ) × (before : List ℕ) × IsAfter n before a × (n < number_base)

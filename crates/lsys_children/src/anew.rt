@@ -15,7 +15,7 @@ use lsys_level::Sight;
 use lsys_module::Symbol;
 use lsys_reads::KeptAnswer;
 use lsys_region::room;
-use lsys_rewrite::{cutting_behind, stays};
+use lsys_rewrite::{next_cutting, stays};
 use std::sync::ledger::Ledger;
 
 /// Counts what the step takes for a parent that has no children. It costs steps by the length of what replaces the parent, and
@@ -51,7 +51,7 @@ fn count_staying(symbols: &[Symbol]) -> ChildCount
         let is_left = stays(cutting, symbol);
         nodes += one_if(is_left);
         params += room_if(is_left, symbol);
-        cutting = cutting_behind(cutting, symbol);
+        cutting = next_cutting(cutting, symbol);
     }
     all_new(nodes, params)
 }

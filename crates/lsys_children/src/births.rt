@@ -14,7 +14,7 @@ use crate::renew::{adopt, bear};
 use lsys_draw::child_key;
 use lsys_forest::{Forest, Kept, NodeId};
 use lsys_module::Symbol;
-use lsys_rewrite::{cutting_behind, stays};
+use lsys_rewrite::{next_cutting, stays};
 
 /// Makes the children of a node that has none those that a successor wants, numbered by their places, and tells what differs.
 /// Each comes to live as its symbol is read: they are not listed before, and nothing is matched. It takes no memory.
@@ -59,7 +59,7 @@ fn bear_staying<A: Kept>(
         let number = Number { code: 0, count };
         let is_left = stays(cutting, symbol);
         count += 1;
-        cutting = cutting_behind(cutting, symbol);
+        cutting = next_cutting(cutting, symbol);
         if is_left {
             let child = child_key(key, number.code, number.count);
             bear(forest, parent, number, symbol, child, told);

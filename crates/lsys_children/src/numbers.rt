@@ -3,7 +3,7 @@ ghost use Rattle.std.specs.Prelude.{◌≡◌, ◌+◌, ◌<◌, [], IfOk, OnOk}
 ghost use Rattle.lsys_spec.specs.Numbers.{code_of};
 ghost use Rattle.lsys_module.specs.Views.{symbol_of};
 ghost use Rattle.lsys_reading.specs.Commands.{numbering_of};
-ghost use Rattle.lsys_children.specs.NumbersOf.{IsBehind, AreFew, GoesBehind, IsNumberOf, numbered_at};
+ghost use Rattle.lsys_children.specs.NumbersOf.{IsAfter, AreFew, GoesAfter, IsNumberOf, numbered_at};
 
 use crate::number::Number;
 use lsys_module::{Symbol, name_code};
@@ -33,7 +33,7 @@ impl SuccessorNumbers {
 
     /// Begins with another successor.
     pub(crate) fn begin(&mut self, numbering: Lineage)
-        ensures behind { IsBehind 0 [] self.new }
+        ensures after { IsAfter 0 [] self.new }
         ensures numbering { self.new.numbering ≡ numbering }
     {
         self.numbering = numbering;
@@ -47,7 +47,7 @@ impl SuccessorNumbers {
     pub(crate) fn next(&mut self, symbol: &Symbol) -> Result<Number, AllocError>
         requires few { AreFew self.old }
         ensures number { IfOk result (IsNumberOf self.old (code_of (symbol_of symbol.now))) }
-        ensures behind { OnOk result (GoesBehind self.old self.new (code_of (symbol_of symbol.now))) }
+        ensures after { OnOk result (GoesAfter self.old self.new (code_of (symbol_of symbol.now))) }
         ensures numbering { self.new.numbering ≡ self.old.numbering }
     {
         let place = self.symbols;

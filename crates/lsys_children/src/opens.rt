@@ -10,7 +10,7 @@ use lsys_forest::{Forest, NodeId};
 use lsys_level::Sight;
 use lsys_module::Symbol;
 use lsys_reads::KeptAnswer;
-use lsys_rewrite::cutting_behind;
+use lsys_rewrite::next_cutting;
 use std::sync::ledger::Ledger;
 
 /// Whether a cut among what replaces a node, by the answer that it keeps, reaches what stands after it. It costs steps by the
@@ -36,7 +36,7 @@ fn reaches_end(symbols: &[Symbol]) -> bool
 {
     let mut cutting = None;
     for symbol in symbols {
-        cutting = cutting_behind(cutting, symbol);
+        cutting = next_cutting(cutting, symbol);
     }
     cutting.is_some()
 }

@@ -14,7 +14,7 @@ use lsys_draw::child_key;
 use lsys_level::Sight;
 use lsys_module::{Module, Params, Symbol};
 use lsys_reading::Lineage;
-use lsys_rewrite::{cutting_behind, stays};
+use lsys_rewrite::{next_cutting, stays};
 use std::alloc::{AllocError, Global};
 use std::marker::Model;
 
@@ -66,7 +66,7 @@ impl Wanted {
         for symbol in successor {
             let number = self.numbers.next(symbol)?;
             put_child(&mut self.children, cutting, key, number, symbol)?;
-            cutting = cutting_behind(cutting, symbol);
+            cutting = next_cutting(cutting, symbol);
         }
         Ok(())
     }

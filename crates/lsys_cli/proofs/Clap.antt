@@ -92,12 +92,12 @@ abbrev pub found_in : List Text → Option Text × (Option Text × Bool)
 found_in words = (first_of (codes "limit") (matches_of lsys words), (first_of (codes "sample") (matches_of lsys words), takes lsys words))
 
 -- where the walk stands after an option's value
-abbrev behind_value : Text → Text → List Row → Walk
-behind_value id d rows = let met = plain_word shape.rules (option id) d (before_value id rows).held in after_step shape.rules d (before_value id rows) met.0 met.1
+abbrev after_value : Text → Text → List Row → Walk
+after_value id d rows = let met = plain_word shape.rules (option id) d (before_value id rows).held in after_step shape.rules d (before_value id rows) met.0 met.1
 
 -- A word that is a value is told by its first byte, and so isn't a flag: the one place where the walk looks at a digit.
 value : (id d : Text) (rows : List Row) (words : List Text) → strip_byte 45 d ≡ None → bytes_eq d (45 ∷ 45 ∷ []) ≡ false
-    → rest_of (before_value id rows) (d ∷ words) ≡ rest_of (behind_value id d rows) words
+    → rest_of (before_value id rows) (d ∷ words) ≡ rest_of (after_value id d rows) words
 unfolding clap_on_literals
 value id d rows words plain last =
     ap₂ (λ t w. (t && walk_passes shape [] w words, fold (walked shape.rules []) w words)) (value_passes_step id d rows plain last) (value_step id d rows plain last)

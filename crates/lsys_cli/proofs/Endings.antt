@@ -126,9 +126,9 @@ untold_ends visits limit left old now false false = of_done visits limit None le
 
 -- 3. a run that stopped after some whole lines
 
-stopped_behind : (visits : Visits) (limit : ℕ) (script rest : List ℕ) (old now : RunView) (d : Desk) (refused memory : Bool) (taken : ℕ) (k : Running visits limit script rest old now d refused memory taken)
+stopped_after : (visits : Visits) (limit : ℕ) (script rest : List ℕ) (old now : RunView) (d : Desk) (refused memory : Bool) (taken : ℕ) (k : Running visits limit script rest old now d refused memory taken)
     → (bytes more : List ℕ) → bytes ≡ k.front ++ more → has_lf more ≡ false → WroteLines visits limit old now bytes
-stopped_behind visits limit script rest old now d refused memory taken k bytes more e no_lf =
+stopped_after visits limit script rest old now d refused memory taken k bytes more e no_lf =
     let whole : whole_lines bytes ≡ k.front ++ [] = ap whole_lines e ∙ k.whole more ∙ ap (λ t. k.front ++ t) (no_whole_line more no_lf) in
     let P : List ℕ → Type 0 = λ t. Tells visits limit t k.given.answered k.given.replies k.given.cost in
     let all = subst P (sym whole) (told_no_more visits limit (k.front ++ []) k.given.answered k.given.replies k.given.cost (k.told [] k.given.answered (λ i l. refl))) in
@@ -147,7 +147,7 @@ past_limit visits limit script rest old now d refused memory taken k small p =
     let cut : script_front script ≡ k.front ++ take n rest = ap (λ m. take m script) sum ∙ ap (take (length k.front + n)) k.split ∙ take-append-add k.front rest n in
     record {
       past = omega (arith, p.past, k.counted, ap length k.split, length-append k.front rest);
-      lines = stopped_behind visits limit script rest old now d refused memory taken k (script_front script) (take n rest) cut p.no_end;
+      lines = stopped_after visits limit script rest old now d refused memory taken k (script_front script) (take n rest) cut p.no_end;
     }
 
 pub read_fault_at : (visits : Visits) (limit : ℕ) (script rest : List ℕ) (left : Option (List ℕ)) (old now : RunView) (d : Desk) (refused memory : Bool) (taken : ℕ) → Running visits limit script rest old now d refused memory taken
@@ -157,7 +157,7 @@ read_fault_at visits limit script rest (Some left) old now d refused memory take
   given = k.front ++ given;
   taken = k.split ∙ ap (λ t. k.front ++ t) c ∙ sym (append_assoc k.front given left);
   within = omega (arith, small, k.counted, length-append k.front given);
-  lines = stopped_behind visits limit script rest old now d refused memory taken k (k.front ++ given) given refl no_lf;
+  lines = stopped_after visits limit script rest old now d refused memory taken k (k.front ++ given) given refl no_lf;
 }
 
 -- 4. a run whose sink failed at a line

@@ -2,7 +2,7 @@
 use Rattle.std.proofs.Common.{◌≡◌, ℕ, Bool, true, false, Option, Some, None, List, [], ◌∷◌, ◌++◌, ◌==◌, codes, refl, ap, sym, ◌∙◌}
 use Rattle.std.specs.Prelude.{flat_map, option_map, option_and_then, if◌then◌else◌}
 use Rattle.std.specs.Str.{bytes_eq}
-use Rattle.lsys_cli.specs.Words.{is_number, number_written, limit_of, setting_of, text_behind, name_and, in_two}
+use Rattle.lsys_cli.specs.Words.{is_number, number_written, limit_of, setting_of, text_after, name_and, in_two}
 use Rattle.lsys_cli.specs.Fronts.{front_of}
 use Rattle.lsys_cli.specs.declared.setting.Setting.{Setting}
 use Rattle.lsys_cli.specs.declared.setting.Setting.TheVariants.{Sample}
@@ -38,7 +38,7 @@ second name word rest = go (is_number word) refl
     go true e = ap (λ ws. front_of (name ∷ (ws ++ rest))) (whole word e)
     go false e =
         let none : number_written word ≡ None = rw e refl in
-        no_front name word rest (text_behind (codes "--limit=") word) (text_behind (codes "--sample=") word) none
+        no_front name word rest (text_after (codes "--limit=") word) (text_after (codes "--sample=") word) none
         ∙ sym (ap (λ o. option_map (λ s. (s, rest)) o) (unset name word none))
 
 pub with_number : (word name number : List ℕ) (words : List (List ℕ)) (found : Option Setting) → in_two word ≡ name ∷ number ∷ [] → found ≡ setting_of name number

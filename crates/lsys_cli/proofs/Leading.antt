@@ -11,7 +11,7 @@ use Rattle.lsys_spec.specs.Replies.{edited, levels_of, shown}
 use Rattle.lsys_spec.specs.Output.{memory_or}
 use Rattle.lsys_history.specs.Timelines as timelines
 use Rattle.lsys_growth.specs.Growth.{Census, GrowthFault, growth_at}
-use Rattle.lsys_lattice.specs.Bounds.{bounds_text, turtle_behind}
+use Rattle.lsys_lattice.specs.Bounds.{bounds_text, turtle_or_refusal}
 use Rattle.lsys_lattice.specs.Bounds as pictures
 use Rattle.lsys_history.specs.Desks.{Desk, DeskReply, EachKept, answered, asked_of, at, bounds, bounds_reply, desk, desk_memory_or, growth, growth_reply, led, own_reply, place_reply, redo, stepped_to, turtle_reply, undo}
 use Rattle.lsys_rules.specs.declared.refusal.Refusal.TheVariants as refusals
@@ -138,7 +138,7 @@ module _ {K : Type 0} (written : K → Option (List ℕ)) (faults : K → ℕ) (
   pub place_told : (limit n column : ℕ) → WasPrinted written faults a b held d.system (place_reply d.system n column (levels_of limit d.system)) result
       → WasServedOrLacked written faults a b held d (own_reply limit d (at n column)) d result
   place_told limit n column p =
-      let plain = turtle_plain column (asked_of (λ x. turtle_behind d.system x n) (levels_of limit d.system)) in
+      let plain = turtle_plain column (asked_of (λ x. turtle_or_refusal d.system x n) (levels_of limit d.system)) in
       queried (place_reply d.system n column (levels_of limit d.system)) plain.0 plain.1 p
 
 -- 5. a step

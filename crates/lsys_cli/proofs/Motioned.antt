@@ -15,7 +15,7 @@ use Rattle.lsys_spec.specs.Pictures as pictures
 use Rattle.lsys_spec.specs.Refusals.{Reply, said, refused, line_feed, derivation_text}
 use Rattle.lsys_spec.specs.Replies.{edited, levels_of, or_text, picture_refusal_text, shown}
 use Rattle.lsys_spec.specs.Output.{memory_or}
-use Rattle.lsys_lattice.specs.Bounds.{bounds, bounds_of, bounds_text, travelled, turtle_at, turtle_behind}
+use Rattle.lsys_lattice.specs.Bounds.{bounds, bounds_of, bounds_text, travelled, turtle_at, turtle_or_refusal}
 use Rattle.lsys_lattice.specs.Extents.{Extents}
 use Rattle.lsys_hom.specs.Refusals.{refusal_of}
 use Rattle.lsys_level.specs.Spots.{Spotted}
@@ -77,12 +77,12 @@ module _ (limit : ℕ) (s : System) (levels : List (List LevelSymbol)) (is : mea
 
   pub place_so : (n column : ℕ) (t : Track) → told s (last_level levels) ≡ Ok t → place_reply s n column (levels_of limit s) ≡ pose_reply s column (slice_get t.poses n)
   place_so n column t h =
-      ap (turtle_reply s column) (asked_so (λ x. turtle_behind s x n))
-      ∙ turtle_so s column (turtle_behind s (last_level levels) n) (slice_get t.poses n) (told_turtles s (last_level levels) t n h)
+      ap (turtle_reply s column) (asked_so (λ x. turtle_or_refusal s x n))
+      ∙ turtle_so s column (turtle_or_refusal s (last_level levels) n) (slice_get t.poses n) (told_turtles s (last_level levels) t n h)
 
   pub place_no : (n column : ℕ) (r : PictureRefusal) → told s (last_level levels) ≡ Err r → place_reply s n column (levels_of limit s) ≡ refused s (picture_refusal_text r)
   place_no n column r h =
-      ap (turtle_reply s column) (asked_so (λ x. turtle_behind s x n)
+      ap (turtle_reply s column) (asked_so (λ x. turtle_or_refusal s x n)
       ∙ ap (λ (w : Result Way PictureRefusal). or_text picture_refusal_text (w and_then λ way. Ok (turtle_at s.lattice n way.0))) (no_way s.lattice (travelled s (last_level levels)) r h))
 
 -- 2. what is said

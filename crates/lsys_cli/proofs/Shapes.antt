@@ -5,7 +5,7 @@ use Rattle.std.specs.Str.{bytes_eq}
 use Rattle.std.proofs.lemmas.Bool.Decides.{nat_tests}
 use Rattle.std.proofs.lemmas.Slice.Eq.{bytes_eq-Decides}
 use Rattle.lsys_syntax.specs.Limits.{usual_module_limit, greatest_module_limit}
-use Rattle.lsys_cli.specs.Words.{is_number, number_written, limit_of, setting_of, text_behind, name_and, in_two, only_setting, together, options_spelled, options_by}
+use Rattle.lsys_cli.specs.Words.{is_number, number_written, limit_of, setting_of, text_after, name_and, in_two, only_setting, together, options_spelled, options_by}
 use Rattle.lsys_cli.specs.Values.{within_limits, options_in}
 use Rattle.lsys_cli.specs.Fronts.{front_of}
 use Rattle.lsys_cli.specs.declared.options.Options.{Options}
@@ -36,12 +36,12 @@ numbered d h = go (is_number d) refl
 cons_is : (b c : ℕ) (xs ys : List ℕ) → b ≡ c → xs ≡ ys → (b ∷ xs) ≡ (c ∷ ys)
 cons_is b c xs ys e f = ap₂ (λ x zs. x ∷ zs) e f
 
-behind_is : (front text rest : List ℕ) → text_behind front text ≡ Some rest → text ≡ front ++ rest
-behind_is [] text rest h = let e : text ≡ rest = cc in e
-behind_is (b ∷ front) [] rest h = cc
-behind_is (b ∷ front) (c ∷ text) rest h = go (b == c) refl h (behind_is front text rest)
+after_is : (front text rest : List ℕ) → text_after front text ≡ Some rest → text ≡ front ++ rest
+after_is [] text rest h = let e : text ≡ rest = cc in e
+after_is (b ∷ front) [] rest h = cc
+after_is (b ∷ front) (c ∷ text) rest h = go (b == c) refl h (after_is front text rest)
   where
-    go : (t : Bool) → (b == c) ≡ t → (if t then text_behind front text else None) ≡ Some rest → (text_behind front text ≡ Some rest → text ≡ front ++ rest) → (c ∷ text) ≡ (b ∷ front) ++ rest
+    go : (t : Bool) → (b == c) ≡ t → (if t then text_after front text else None) ≡ Some rest → (text_after front text ≡ Some rest → text ≡ front ++ rest) → (c ∷ text) ≡ (b ∷ front) ++ rest
     go true e f k = let same : c ≡ b = grind (arith, nat_tests) in cons_is c b text (front ++ rest) same (k f)
     go false e f k = cc
 
@@ -79,21 +79,21 @@ alone_fronted word (next ∷ words) h =
 
 fronted : (words : List (List ℕ)) → is_some (front_of (flat_map in_two words)) ≡ true → IsFront words
 fronted [] h = apart h
-fronted (word ∷ words) h = go (text_behind (codes "--limit=") word) (text_behind (codes "--sample=") word) refl refl h
+fronted (word ∷ words) h = go (text_after (codes "--limit=") word) (text_after (codes "--sample=") word) refl refl h
   where
-    go : (limited sampled : Option (List ℕ)) → text_behind (codes "--limit=") word ≡ limited → text_behind (codes "--sample=") word ≡ sampled
+    go : (limited sampled : Option (List ℕ)) → text_after (codes "--limit=") word ≡ limited → text_after (codes "--sample=") word ≡ sampled
         → is_some (front_of (name_and (codes "--limit") limited (name_and (codes "--sample") sampled (word ∷ [])) ++ flat_map in_two words)) ≡ true → IsFront (word ∷ words)
     go (Some d) sampled e f k =
         let set : Sets (codes "--limit") d = sets (codes "--limit") d (of_map (λ s. (s, flat_map in_two words)) (setting_of (codes "--limit") d) k) in
-        (true, d, words, set.number, inl (ap (λ w. w ∷ words) (behind_is (codes "--limit=") word d e)))
+        (true, d, words, set.number, inl (ap (λ w. w ∷ words) (after_is (codes "--limit=") word d e)))
     go None (Some d) e f k =
         let set : Sets (codes "--sample") d = sets (codes "--sample") d (of_map (λ s. (s, flat_map in_two words)) (setting_of (codes "--sample") d) k) in
-        (true, d, words, set.number, inr (ap (λ w. w ∷ words) (behind_is (codes "--sample=") word d f)))
+        (true, d, words, set.number, inr (ap (λ w. w ∷ words) (after_is (codes "--sample=") word d f)))
     go None None e f k = alone_fronted word words k
 
 -- of the names and numbers of some words, which are not none
 parts_by : (P : List (List ℕ) → Type 0) → ((x : List ℕ) (xs : List (List ℕ)) → P (x ∷ xs)) → (word : List ℕ) (words : List (List ℕ)) → P (flat_map in_two (word ∷ words))
-parts_by P h word words = by_cases P h (text_behind (codes "--limit=") word) (text_behind (codes "--sample=") word) word (flat_map in_two words)
+parts_by P h word words = by_cases P h (text_after (codes "--limit=") word) (text_after (codes "--sample=") word) word (flat_map in_two words)
 
 of_after : (o : Option (Setting × List (List ℕ))) → is_some (after_first o) ≡ true → is_some o ≡ true
 of_after None h = h

@@ -267,9 +267,9 @@ script_length : (limit : ℕ) (script line front : List ℕ) (taken : ℕ) → s
 script_length limit script line front taken split count small = omega (arith, ap length split, length-append front line, count, small)
 
 -- the front of the script within its limit, where a line ends there
-cut_behind : (script line after front : List ℕ) (taken : ℕ) → script ≡ front ++ ((line ++ 10 ∷ []) ++ after) → length front ≡ taken → taken + length (line ++ 10 ∷ []) ≤ most_script_bytes
+cut_after : (script line after front : List ℕ) (taken : ℕ) → script ≡ front ++ ((line ++ 10 ∷ []) ++ after) → length front ≡ taken → taken + length (line ++ 10 ∷ []) ≤ most_script_bytes
     → script_front script ≡ front ++ (line ++ 10 ∷ take (most_script_bytes - (taken + length (line ++ 10 ∷ []))) after)
-cut_behind script line after front taken split count small =
+cut_after script line after front taken split count small =
     let n = most_script_bytes - (taken + length (line ++ 10 ∷ [])) in
     let sum : most_script_bytes ≡ length front + (length (line ++ 10 ∷ []) + n) = omega (arith, count, small) in
     ap (λ m. take m script) sum ∙ ap (take (length front + (length (line ++ 10 ∷ []) + n))) split
@@ -315,7 +315,7 @@ quit_within visits limit script line after old now now' d next refused memory ta
       let P : List ℕ → Type 0 = λ t. ToldAll visits limit (k.given.number + 1) (with_answer k.given.number a.lacks k.given.answered) (k.given.replies ++ a.answer.reply ∷ []) (k.given.cost and desk_line_cost visits limit a.lacks d line) t in
       subst P (sym (k.split ∙ ap (λ t. k.front ++ t) (append_assoc line (10 ∷ []) after))) (all after);
   within = λ M agree.
-      let cut : script_front script ≡ k.front ++ (line ++ 10 ∷ take (most_script_bytes - (taken + length (line ++ 10 ∷ []))) after) = cut_behind script line after k.front taken k.split k.counted small in
+      let cut : script_front script ≡ k.front ++ (line ++ 10 ∷ take (most_script_bytes - (taken + length (line ++ 10 ∷ []))) after) = cut_after script line after k.front taken k.split k.counted small in
       let whole = ap whole_lines cut ∙ k.whole (line ++ 10 ∷ take (most_script_bytes - (taken + length (line ++ 10 ∷ []))) after)
       ∙ ap (λ t. k.front ++ t) (whole_to_feed line (take (most_script_bytes - (taken + length (line ++ 10 ∷ []))) after)) in
       inr (ap (λ t. any_end (desk_out limit t M)) whole ∙ ap any_end (all (whole_lines (take (most_script_bytes - (taken + length (line ++ 10 ∷ []))) after)) M agree).replies

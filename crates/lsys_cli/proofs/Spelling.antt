@@ -3,7 +3,7 @@ use Rattle.std.proofs.Common.{rules, suc, ◌≡◌, ℕ, length, ◌==◌, true
 use Rattle.std.specs.Prelude.{flat_map, option_map, option_and_then}
 use Rattle.std.specs.String.{string_bytes}
 use Rattle.std.specs.declared.string.String.{String}
-use Rattle.lsys_cli.specs.Words.{texts, setting_of, text_behind, name_and, in_two, only_setting, together, options_spelled, options_by}
+use Rattle.lsys_cli.specs.Words.{texts, setting_of, text_after, name_and, in_two, only_setting, together, options_spelled, options_by}
 use Rattle.lsys_cli.specs.Fronts.{front_of}
 use Rattle.lsys_cli.specs.declared.options.Options.{Options}
 use Rattle.lsys_cli.specs.declared.setting.Setting.{Setting}
@@ -60,7 +60,7 @@ apart e = cc
 pub some : {A : Type 0} (P : List (List ℕ) → Type 0) → ((x : List ℕ) (xs : List (List ℕ)) → P (x ∷ xs)) → (words : List (String A)) → false ≡ (length words == 0) → P (flat_map in_two (texts words))
 some P h [] e = apart (sym e)
 some P h (word ∷ words) e =
-    by_cases P h (text_behind (codes "--limit=") (string_bytes word)) (text_behind (codes "--sample=") (string_bytes word)) (string_bytes word) (flat_map in_two (texts words))
+    by_cases P h (text_after (codes "--limit=") (string_bytes word)) (text_after (codes "--sample=") (string_bytes word)) (string_bytes word) (flat_map in_two (texts words))
 
 pub firstly : {A : Type 0} (words : List (String A)) → false ≡ (length words == 0) → after_first (front_of (flat_map in_two (texts words))) ≡ options_by (texts words)
 firstly words e = some (λ ws. after_first (front_of ws) ≡ options_spelled ws) (λ x xs. sym (by_fronts x xs)) words e

@@ -33,10 +33,10 @@ setting_of name word =
     else if bytes_eq name (codes "--sample") then option_map Sample (number_written word) else None
 
 -- what stands after a front in a text that begins with it
-abbrev pub text_behind : List ℕ → List ℕ → Option (List ℕ)
-text_behind [] text = Some text
-text_behind (b ∷ front) [] = None
-text_behind (b ∷ front) (c ∷ text) = if b == c then text_behind front text else None
+abbrev pub text_after : List ℕ → List ℕ → Option (List ℕ)
+text_after [] text = Some text
+text_after (b ∷ front) [] = None
+text_after (b ∷ front) (c ∷ text) = if b == c then text_after front text else None
 
 -- the option's name and its number as two words; where there is no number, the other words
 abbrev pub name_and : List ℕ → Option (List ℕ) → List (List ℕ) → List (List ℕ)
@@ -45,7 +45,7 @@ name_and name None others = others
 
 -- a word `NAME=N`, where NAME is an option's, as the two words NAME and N; another word as it is
 abbrev pub in_two : List ℕ → List (List ℕ)
-in_two word = name_and (codes "--limit") (text_behind (codes "--limit=") word) (name_and (codes "--sample") (text_behind (codes "--sample=") word) (word ∷ []))
+in_two word = name_and (codes "--limit") (text_after (codes "--limit=") word) (name_and (codes "--sample") (text_after (codes "--sample=") word) (word ∷ []))
 
 -- without a word the limit is the usual one, and there is no sample
 abbrev pub only_setting : Setting → Options

@@ -42,7 +42,7 @@ use script::run_by;
 pub use status::Status;
 use std::alloc::Global;
 use std::sync::ledger::Ledger;
-pub use words::{status_without_words, words_behind_name};
+pub use words::{status_without_words, words_after_name};
 
 /// A desk whose derivation stands in a forest: the one at which [`lsys`] answers the lines of a script.
 pub type Desk<L> = desk::Desk<L, ForestDerivation<L>>;

@@ -6,11 +6,11 @@ use std::io::ErrorKind;
 
 /// The words after the program's name, which comes first: all of them, in order, as they are. Where not even the name is there, there
 /// are none.
-pub fn words_behind_name(words: &[String]) -> &[String]
+pub fn words_after_name(words: &[String]) -> &[String]
     ensures { result.now ≡ drop 1 words.now }
 {
     match words.split_first() {
-        Some((_, behind)) => behind,
+        Some((_, after)) => after,
         None => words,
     }
 }

@@ -18,7 +18,7 @@ fn first_word(state: u64) -> u64
 }
 
 /// The word `n` words after that of a state.
-fn word_behind(state: u64, n: u64) -> u64
+fn word_after(state: u64, n: u64) -> u64
     ensures { result ≡ word_past state n }
 {
     first_word(state.wrapping_add(1).wrapping_add(n))
@@ -40,9 +40,9 @@ pub fn child_key(key: u64, code: u64, count: u32) -> u64
     let from = if code == 0 {
         key
     } else {
-        word_behind(key, code)
+        word_after(key, code)
     };
-    word_behind(from, u64::from(count))
+    word_after(from, u64::from(count))
 }
 
 /// The draw of a module with this key.

@@ -24,22 +24,22 @@ module _ (fs : List NameText) where
   pushed wrap r q e = ap (λ (x : Tree × List OperandFrame). Some (None, wrap x.0 ∷ x.1)) e
 
   -- the state after an operand, with its prefixes and powers
-  behind : (f : AfterUnary) (a : Atom) (k : InUnary) (r : Option ExpressionReading) → r ≡ Some (reading_of fs (after_unary f (unary_with fs (only_atom a) k) (around_unary fs k)))
+  after : (f : AfterUnary) (a : Atom) (k : InUnary) (r : Option ExpressionReading) → r ≡ Some (reading_of fs (after_unary f (unary_with fs (only_atom a) k) (around_unary fs k)))
       → r ≡ Some (reading_of fs (after_operand f (only_atom a) k))
-  behind f a k r e = e ∙ sym (ap (λ s. Some (reading_of fs s)) (after_operand-is fs f (only_atom a) k))
+  after f a k r e = e ∙ sym (ap (λ s. Some (reading_of fs s)) (after_operand-is fs f (only_atom a) k))
 
   -- a comparison stands beside no other
   compare-reads : (op : RelOp) (s : Sum) (j : InRel) → IsGoing (compared op s j)
-      → F.behind_operand (Some (F.operator (comparison op))) (sum_tree fs s) (rel_frames fs j) ≡ Some (reading_of fs (compared op s j))
+      → F.once_operand (Some (F.operator (comparison op))) (sum_tree fs s) (rel_frames fs j) ≡ Some (reading_of fs (compared op s j))
   compare-reads op s (first_sum k) g = pushed (F.binary (comparison op)) _ _ (and-left fs 3 (sum_tree fs s) k (omega arith))
   compare-reads op s (second_sum l o k) g = elim g [ ]
 
   comparison-moves : (op : RelOp) (a : Atom) (k : InUnary) → IsGoing (after_operand (ends_term (ends_sum (comparing op))) (only_atom a) k)
-      → F.behind_operand (Some (F.operator (comparison op))) (atom_tree fs a) (unary_frames fs k) ≡ Some (reading_of fs (after_operand (ends_term (ends_sum (comparing op))) (only_atom a) k))
+      → F.once_operand (Some (F.operator (comparison op))) (atom_tree fs a) (unary_frames fs k) ≡ Some (reading_of fs (after_operand (ends_term (ends_sum (comparing op))) (only_atom a) k))
   comparison-moves op a k g =
       let f : AfterUnary = ends_term (ends_sum (comparing op)) in
       let going : IsGoing (compared op (sum_to fs a k) (in_rel fs k)) = subst IsGoing (after_operand-is fs f (only_atom a) k) g in
-      behind f a k _ (pushed (F.binary (comparison op)) _ _ (to_sum fs 3 a k (omega arith)) ∙ compare-reads op (sum_to fs a k) (in_rel fs k) going)
+      after f a k _ (pushed (F.binary (comparison op)) _ _ (to_sum fs 3 a k (omega arith)) ∙ compare-reads op (sum_to fs a k) (in_rel fs k) going)
 
   -- parentheses close around an expression, where some are open
   close-reads : (e : Expr) (j : Around) → IsGoing (closed e j) → F.without_parentheses (expr_tree fs e) (around_frames fs j) ≡ Some (reading_of fs (closed e j))
@@ -47,19 +47,19 @@ module _ (fs : List NameText) where
   close-reads e (in_parens k) g = refl
 
   close-moves : (a : Atom) (k : InUnary) → IsGoing (after_operand (ends_term (ends_sum (ends_rel (ends_and (ends_expr closing))))) (only_atom a) k)
-      → F.behind_operand (Some F.closing) (atom_tree fs a) (unary_frames fs k) ≡ Some (reading_of fs (after_operand (ends_term (ends_sum (ends_rel (ends_and (ends_expr closing))))) (only_atom a) k))
+      → F.once_operand (Some F.closing) (atom_tree fs a) (unary_frames fs k) ≡ Some (reading_of fs (after_operand (ends_term (ends_sum (ends_rel (ends_and (ends_expr closing))))) (only_atom a) k))
   close-moves a k g =
       let f : AfterUnary = ends_term (ends_sum (ends_rel (ends_and (ends_expr closing)))) in
       let going : IsGoing (closed (expr_to fs a k) (surrounding fs k)) = subst IsGoing (after_operand-is fs f (only_atom a) k) g in
-      behind f a k _ (ap (λ (r : Tree × List OperandFrame). F.without_parentheses r.0 r.1) (expr-read fs a k) ∙ close-reads (expr_to fs a k) (surrounding fs k) going)
+      after f a k _ (ap (λ (r : Tree × List OperandFrame). F.without_parentheses r.0 r.1) (expr-read fs a k) ∙ close-reads (expr_to fs a k) (surrounding fs k) going)
 
   product-moves : (op : TermOp) (a : Atom) (k : InUnary)
-      → F.behind_operand (Some (F.operator (product_of op))) (atom_tree fs a) (unary_frames fs k) ≡ Some (reading_of fs (after_operand (more_term op) (only_atom a) k))
-  product-moves op a k = behind (more_term op) a k _ (pushed (F.binary (product_of op)) _ _ (term-read fs a k))
+      → F.once_operand (Some (F.operator (product_of op))) (atom_tree fs a) (unary_frames fs k) ≡ Some (reading_of fs (after_operand (more_term op) (only_atom a) k))
+  product-moves op a k = after (more_term op) a k _ (pushed (F.binary (product_of op)) _ _ (term-read fs a k))
 
   sum-moves : (op : SumOp) (a : Atom) (k : InUnary)
-      → F.behind_operand (Some (F.operator (sum_of op))) (atom_tree fs a) (unary_frames fs k) ≡ Some (reading_of fs (after_operand (ends_term (more_sum op)) (only_atom a) k))
-  sum-moves op a k = behind (ends_term (more_sum op)) a k _ (pushed (F.binary (sum_of op)) _ _ (sum-read fs a k))
+      → F.once_operand (Some (F.operator (sum_of op))) (atom_tree fs a) (unary_frames fs k) ≡ Some (reading_of fs (after_operand (ends_term (more_sum op)) (only_atom a) k))
+  sum-moves op a k = after (ends_term (more_sum op)) a k _ (pushed (F.binary (sum_of op)) _ _ (sum-read fs a k))
 
   -- where the machine goes on, so does the reading
   pub moves : (s : ExpressionState) (k : Kind) → IsGoing (step s k) → next_reading fs k (reading_of fs s).0 (reading_of fs s).1 ≡ Some (reading_of fs (step s k))
@@ -81,8 +81,8 @@ module _ (fs : List NameText) where
   moves (Have a k) AtMost g = comparison-moves at_most a k g
   moves (Have a k) Greater g = comparison-moves greater a k g
   moves (Have a k) AtLeast g = comparison-moves at_least a k g
-  moves (Have a k) Ampersand g = behind (ends_term (ends_sum (ends_rel half_and))) a k _ (pushed F.both _ _ (and-read fs a k))
-  moves (Have a k) Bar g = behind (ends_term (ends_sum (ends_rel (ends_and half_or)))) a k _ (pushed F.either _ _ (expr-read fs a k))
+  moves (Have a k) Ampersand g = after (ends_term (ends_sum (ends_rel half_and))) a k _ (pushed F.both _ _ (and-read fs a k))
+  moves (Have a k) Bar g = after (ends_term (ends_sum (ends_rel (ends_and half_or)))) a k _ (pushed F.either _ _ (expr-read fs a k))
   moves (Have a k) RightParen g = close-moves a k g
   moves (Have a k) t g = absurd (not_both _ (other-over (only_atom a) k) g)
   moves (HalfAnd a k) Ampersand g = refl

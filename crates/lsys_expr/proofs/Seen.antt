@@ -21,13 +21,13 @@ IsDone s = (e : Expr) × (s ≡ m.Done e)
 
 -- Where the machine stops or is done, by what the state before is at an end.
 stops-there : (s t : m.ExpressionState) → t ≡ m.Stop → m.end_step s ≡ m.Stop → StopsThere s t
-stops-there s t h e = λ n x. ap (λ u. places.extent_behind n s u x) h ∙ ap (places.at_end n) e
+stops-there s t h e = λ n x. ap (λ u. places.extent_after n s u x) h ∙ ap (places.at_end n) e
 
 stop-ends : (s t : m.ExpressionState) → t ≡ m.Stop → IsDone (m.end_step s) → EndsThere s t
-stop-ends s t h e = (e.0, λ n x. ap (λ u. places.extent_behind n s u x) h ∙ ap (places.at_end n) e.1)
+stop-ends s t h e = (e.0, λ n x. ap (λ u. places.extent_after n s u x) h ∙ ap (places.at_end n) e.1)
 
 done-ends : (s t : m.ExpressionState) → IsDone t → EndsThere s t
-done-ends s t h = (h.0, λ n x. ap (λ u. places.extent_behind n s u x) h.1)
+done-ends s t h = (h.0, λ n x. ap (λ u. places.extent_after n s u x) h.1)
 
 pub open-seen : (ls : List OpenLevel) (s : m.ExpressionState) (t : Kind) → IsSeen Operand ls s → BeginsAs begin.Parenthesis t → IsSeen Operand (fresh ∷ ls) (m.step s t)
 open-seen [] s t h b = elim h [ ]
@@ -53,8 +53,8 @@ operand-wrapped f u (m.inverting k) = operand-wrapped f (inverted u) k
 operand-wrapped f u (m.raising a k) = operand-wrapped f (raised a u) k
 operand-wrapped f u (m.in_term k) = (u, refl)
 
-behind : (t : Kind) (f : m.AfterUnary) (a : Atom) (k : m.InUnary) → m.what_follows t ≡ m.ends_unary f → (w : Unary) × (m.step (m.Have a k) t ≡ m.after_unary f w (term_around k))
-behind t f a k e = let w : (w : Unary) × (m.after_operand f (only_atom a) k ≡ m.after_unary f w (term_around k)) = operand-wrapped f (only_atom a) k in (w.0, ap (λ g. m.after_atom g a k) e ∙ w.1)
+after : (t : Kind) (f : m.AfterUnary) (a : Atom) (k : m.InUnary) → m.what_follows t ≡ m.ends_unary f → (w : Unary) × (m.step (m.Have a k) t ≡ m.after_unary f w (term_around k))
+after t f a k e = let w : (w : Unary) × (m.after_operand f (only_atom a) k ≡ m.after_unary f w (term_around k)) = operand-wrapped f (only_atom a) k in (w.0, ap (λ g. m.after_atom g a k) e ∙ w.1)
 
 pub power-seen : (ls : List OpenLevel) (s : m.ExpressionState) (t : Kind) → IsSeen Operator ls s → FollowsAs follow.Power t → IsSeen Operand (with_prefix ls) (m.step s t)
 power-seen [] s t h e = elim h [ ]
@@ -63,12 +63,12 @@ power-seen (l ∷ ls) s t h e = elim h [ ]
 
 pub product-seen : (ls : List OpenLevel) (s : m.ExpressionState) (t : Kind) → IsSeen Operator ls s → FollowsAs follow.Product t → IsSeen Operand (shallow ls) (m.step s t)
 product-seen [] s t h e = elim h [ ]
-product-seen (l ∷ ls) (m.Have a k) t h e = subst (IsSeen Operand (shallow (l ∷ ls))) (sym (behind t (m.more_term e.0) a k e.1).1) ((refl, h.0.1), h.1)
+product-seen (l ∷ ls) (m.Have a k) t h e = subst (IsSeen Operand (shallow (l ∷ ls))) (sym (after t (m.more_term e.0) a k e.1).1) ((refl, h.0.1), h.1)
 product-seen (l ∷ ls) s t h e = elim h [ ]
 
 pub sum-seen : (ls : List OpenLevel) (s : m.ExpressionState) (t : Kind) → IsSeen Operator ls s → FollowsAs follow.Sum t → IsSeen Operand (shallow ls) (m.step s t)
 sum-seen [] s t h e = elim h [ ]
-sum-seen (l ∷ ls) (m.Have a k) t h e = subst (IsSeen Operand (shallow (l ∷ ls))) (sym (behind t (m.ends_term (m.more_sum e.0)) a k e.1).1) ((refl, h.0.1), h.1)
+sum-seen (l ∷ ls) (m.Have a k) t h e = subst (IsSeen Operand (shallow (l ∷ ls))) (sym (after t (m.ends_term (m.more_sum e.0)) a k e.1).1) ((refl, h.0.1), h.1)
 sum-seen (l ∷ ls) s t h e = elim h [ ]
 
 compared-first : (op : RelOp) (s : Sum) (r : m.InRel) → is_second r ≡ false → m.compared op s r ≡ m.Due (m.in_term (m.first_unary (m.first_term (m.second_sum s op (m.around_rel r)))))
@@ -83,23 +83,23 @@ pub compare-seen : (ls : List OpenLevel) (s : m.ExpressionState) (t : Kind) → 
 compare-seen [] s t h e c = elim h [ ]
 compare-seen (l ∷ ls) (m.Have a k) t h e c =
     subst (IsSeen Operand (comparing (l ∷ ls)))
-    (sym ((behind t (m.ends_term (m.ends_sum (m.comparing e.0))) a k e.1).1 ∙ compared-first e.0 _ (rel_around k) (h.0.1 ∙ c)))
+    (sym ((after t (m.ends_term (m.ends_sum (m.comparing e.0))) a k e.1).1 ∙ compared-first e.0 _ (rel_around k) (h.0.1 ∙ c)))
     ((refl, refl), h.1)
 compare-seen (l ∷ ls) s t h e c = elim h [ ]
 
 compare-again : (ls : List OpenLevel) (s : m.ExpressionState) (t : Kind) → IsSeen Operator ls s → FollowsAs follow.Comparison t → is_compared ls ≡ true → m.step s t ≡ m.Stop
 compare-again [] s t h e c = elim h [ ]
-compare-again (l ∷ ls) (m.Have a k) t h e c = (behind t (m.ends_term (m.ends_sum (m.comparing e.0))) a k e.1).1 ∙ compared-again e.0 _ (rel_around k) (h.0.1 ∙ c)
+compare-again (l ∷ ls) (m.Have a k) t h e c = (after t (m.ends_term (m.ends_sum (m.comparing e.0))) a k e.1).1 ∙ compared-again e.0 _ (rel_around k) (h.0.1 ∙ c)
 compare-again (l ∷ ls) s t h e c = elim h [ ]
 
 pub and-seen : (ls : List OpenLevel) (s : m.ExpressionState) (t : Kind) → IsSeen Operator ls s → FollowsAs follow.And t → IsSeen SecondAnd (cleared ls) (m.step s t)
 and-seen [] s t h e = elim h [ ]
-and-seen (l ∷ ls) (m.Have a k) t h e = subst (IsSeen SecondAnd (cleared (l ∷ ls))) (sym (behind t (m.ends_term (m.ends_sum (m.ends_rel m.half_and))) a k e).1) (refl, h.1)
+and-seen (l ∷ ls) (m.Have a k) t h e = subst (IsSeen SecondAnd (cleared (l ∷ ls))) (sym (after t (m.ends_term (m.ends_sum (m.ends_rel m.half_and))) a k e).1) (refl, h.1)
 and-seen (l ∷ ls) s t h e = elim h [ ]
 
 pub or-seen : (ls : List OpenLevel) (s : m.ExpressionState) (t : Kind) → IsSeen Operator ls s → FollowsAs follow.Or t → IsSeen SecondOr (cleared ls) (m.step s t)
 or-seen [] s t h e = elim h [ ]
-or-seen (l ∷ ls) (m.Have a k) t h e = subst (IsSeen SecondOr (cleared (l ∷ ls))) (sym (behind t (m.ends_term (m.ends_sum (m.ends_rel (m.ends_and m.half_or)))) a k e).1) (refl, h.1)
+or-seen (l ∷ ls) (m.Have a k) t h e = subst (IsSeen SecondOr (cleared (l ∷ ls))) (sym (after t (m.ends_term (m.ends_sum (m.ends_rel (m.ends_and m.half_or)))) a k e).1) (refl, h.1)
 or-seen (l ∷ ls) s t h e = elim h [ ]
 
 closed-inside : (e : Expr) (k : m.Around) (l : OpenLevel) (ls : List OpenLevel) → AreOuter (l ∷ ls) k → IsSeen Operator (l ∷ ls) (m.closed e k)
@@ -148,12 +148,12 @@ compare-ends ls s t h e c i = stop-ends s (m.step s t) (compare-again ls s t h e
 pub close-inside : (ls : List OpenLevel) (s : m.ExpressionState) (t : Kind) → IsSeen Operator ls s → FollowsAs follow.Closing t → is_inside ls ≡ true → IsSeen Operator (drop 1 ls) (m.step s t)
 close-inside [] s t h e i = elim h [ ]
 close-inside (l ∷ []) s t h e i = cc
-close-inside (l ∷ n ∷ ls) (m.Have a k) t h e i = subst (IsSeen Operator (n ∷ ls)) (sym (behind t (over m.closing) a k e).1) (closed-inside _ (parens_around k) n ls h.1)
+close-inside (l ∷ n ∷ ls) (m.Have a k) t h e i = subst (IsSeen Operator (n ∷ ls)) (sym (after t (over m.closing) a k e).1) (closed-inside _ (parens_around k) n ls h.1)
 close-inside (l ∷ n ∷ ls) s t h e i = elim h [ ]
 
 close-outside : (ls : List OpenLevel) (s : m.ExpressionState) (t : Kind) → IsSeen Operator ls s → FollowsAs follow.Closing t → is_inside ls ≡ false → IsDone (m.step s t)
 close-outside [] s t h e i = elim h [ ]
-close-outside (l ∷ []) (m.Have a k) t h e i = (_, (behind t (over m.closing) a k e).1 ∙ closed-outside _ (parens_around k) h.1)
+close-outside (l ∷ []) (m.Have a k) t h e i = (_, (after t (over m.closing) a k e).1 ∙ closed-outside _ (parens_around k) h.1)
 close-outside (l ∷ []) s t h e i = elim h [ ]
 close-outside (l ∷ n ∷ ls) s t h e i = cc
 
@@ -163,7 +163,7 @@ close-ends ls s t h e i = done-ends s (m.step s t) (close-outside ls s t h e i)
 other-inside : (ls : List OpenLevel) (s : m.ExpressionState) (t : Kind) → IsSeen Operator ls s → FollowsAs follow.Other t → is_inside ls ≡ true → m.step s t ≡ m.Stop
 other-inside [] s t h e i = elim h [ ]
 other-inside (l ∷ []) s t h e i = cc
-other-inside (l ∷ n ∷ ls) (m.Have a k) t h e i = (behind t (over m.other) a k e).1 ∙ ended-inside _ (parens_around k) n ls h.1
+other-inside (l ∷ n ∷ ls) (m.Have a k) t h e i = (after t (over m.other) a k e).1 ∙ ended-inside _ (parens_around k) n ls h.1
 other-inside (l ∷ n ∷ ls) s t h e i = elim h [ ]
 
 pub other-stops : (ls : List OpenLevel) (s : m.ExpressionState) (t : Kind) → IsSeen Operator ls s → FollowsAs follow.Other t → is_inside ls ≡ true → StopsThere s (m.step s t)
@@ -171,7 +171,7 @@ other-stops ls s t h e i = stops-there s (m.step s t) (other-inside ls s t h e i
 
 other-outside : (ls : List OpenLevel) (s : m.ExpressionState) (t : Kind) → IsSeen Operator ls s → FollowsAs follow.Other t → is_inside ls ≡ false → IsDone (m.step s t)
 other-outside [] s t h e i = elim h [ ]
-other-outside (l ∷ []) (m.Have a k) t h e i = (_, (behind t (over m.other) a k e).1 ∙ ended-outside _ (parens_around k) h.1)
+other-outside (l ∷ []) (m.Have a k) t h e i = (_, (after t (over m.other) a k e).1 ∙ ended-outside _ (parens_around k) h.1)
 other-outside (l ∷ []) s t h e i = elim h [ ]
 other-outside (l ∷ n ∷ ls) s t h e i = cc
 

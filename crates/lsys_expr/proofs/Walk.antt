@@ -5,12 +5,12 @@ use Rattle.std.proofs.Math.Seq.{drop-cons}
 use Rattle.std.proofs.lemmas.List.{drop-map, drop_all, length-map}
 use Rattle.lsys_syntax.specs.Tokens.{Kind}
 use Rattle.lsys_syntax.specs.ExpressionMachine as m
-use Rattle.lsys_syntax.specs.ExpressionPlaces.{Extent, ends, stops, too_deep, at_end, extent_behind, extent_from, extent}
+use Rattle.lsys_syntax.specs.ExpressionPlaces.{Extent, ends, stops, too_deep, at_end, extent_after, extent_from, extent}
 use Rattle.lsys_syntax.specs.Nesting.{depth}
 use Rattle.lsys_syntax.specs.RuleMachine.{small}
 use Rattle.lsys_syntax.specs.Sentences.{AreTokens}
 use Rattle.lsys_syntax.proofs.Sound.{IsGoing}
-use Rattle.lsys_syntax.proofs.WholeExpressions.{within-rest, behind-deep}
+use Rattle.lsys_syntax.proofs.WholeExpressions.{within-rest, after-deep}
 use Rattle.lsys_syntax.proofs.Extents.{ends-whole, ends-last, stop-begins, stop-last, stop-whole, deep-begins, deep-none, deep-goes}
 use Rattle.lsys_text.specs.Tokens.{kind_of, kind_row}
 use Rattle.lsys_text.specs.declared.token_kind.Token.{Token as TextToken}
@@ -35,7 +35,7 @@ module _ (ks : List Kind) (i : ℕ) (k : Kind) (a : Awaited) (ls : List OpenLeve
   abbrev next : m.ExpressionState
   next = m.step r.state (small k)
 
-  at-place : extent ks ≡ extent_behind i r.state next (extent_from (i + 1) next (drop (i + 1) ks))
+  at-place : extent ks ≡ extent_after i r.state next (extent_from (i + 1) next (drop (i + 1) ks))
   at-place = r.rest ∙ ap (extent_from i r.state) q
 
   pub reached-next : (b : Awaited) (more : List OpenLevel) → IsTokenOutcome b more Goes r.state next → Reached ks (i + 1) b more
@@ -52,7 +52,7 @@ module _ (ks : List Kind) (i : ℕ) (k : Kind) (a : Awaited) (ls : List OpenLeve
   pub reached-deep : (b : Awaited) (more : List OpenLevel) → IsTokenOutcome b more TooDeep r.state next → IsExtent 0 (extent ks) (Err (Deep i))
   reached-deep b more h =
       let d : IsGoing next × (depth next ≡ inner_nesting h.1) = seen-depth h.0 h.1 next h.2 in
-      subst (λ x. IsExtent 0 x (Err (Deep i))) (sym (at-place ∙ behind-deep i (extent_from (i + 1) next (drop (i + 1) ks)) r.state next (omega (arith, d.1, h.3)) d.0)) (omega arith)
+      subst (λ x. IsExtent 0 x (Err (Deep i))) (sym (at-place ∙ after-deep i (extent_from (i + 1) next (drop (i + 1) ks)) r.state next (omega (arith, d.1, h.3)) d.0)) (omega arith)
 
 -- the end of the tokens
 pub reached-whole : (ks : List Kind) (i : ℕ) (a : Awaited) (ls : List OpenLevel) (r : Reached ks i a ls) → drop i ks ≡ [] → IsEnded true (m.end_step r.state) → IsExtent 0 (extent ks) (Ok i)

@@ -83,12 +83,12 @@ without_parentheses t (parentheses ∷ fs) = Some (Some t, fs)
 without_parentheses t fs = None
 
 -- the reading after a token, where an operand was read
-abbrev pub behind_operand : Option Follower → Tree → List OperandFrame → Option ExpressionReading
-behind_operand None t fs = None
-behind_operand (Some (operator op)) t fs = Some (None, binary op (reduced (left_strength op) t fs).0 ∷ (reduced (left_strength op) t fs).1)
-behind_operand (Some half_and) t fs = Some (None, both (reduced 2 t fs).0 ∷ (reduced 2 t fs).1)
-behind_operand (Some half_or) t fs = Some (None, either (reduced 1 t fs).0 ∷ (reduced 1 t fs).1)
-behind_operand (Some closing) t fs = without_parentheses (reduced 1 t fs).0 (reduced 1 t fs).1
+abbrev pub once_operand : Option Follower → Tree → List OperandFrame → Option ExpressionReading
+once_operand None t fs = None
+once_operand (Some (operator op)) t fs = Some (None, binary op (reduced (left_strength op) t fs).0 ∷ (reduced (left_strength op) t fs).1)
+once_operand (Some half_and) t fs = Some (None, both (reduced 2 t fs).0 ∷ (reduced 2 t fs).1)
+once_operand (Some half_or) t fs = Some (None, either (reduced 1 t fs).0 ∷ (reduced 1 t fs).1)
+once_operand (Some closing) t fs = without_parentheses (reduced 1 t fs).0 (reduced 1 t fs).1
 
 -- The reading after a token, where an operand is due. The second half of && and || changes nothing.
 abbrev pub with_operand : List NameText → Kind → List OperandFrame → Option ExpressionReading
@@ -104,4 +104,4 @@ with_operand formals k fs = None
 -- the reading after a token
 abbrev pub next_reading : List NameText → Kind → Option Tree → List OperandFrame → Option ExpressionReading
 next_reading formals k None fs = with_operand formals k fs
-next_reading formals k (Some t) fs = behind_operand (follower k) t fs
+next_reading formals k (Some t) fs = once_operand (follower k) t fs

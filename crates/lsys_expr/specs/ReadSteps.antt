@@ -8,7 +8,7 @@ use Rattle.lsys_text.specs.declared.token_kind.TokenKind.{TokenKind}
 use Rattle.lsys_text.specs.Tokens.{kind_of, mark_kind}
 use Rattle.lsys_expr.specs.declared.frames.Frame.{Frame}
 use Rattle.lsys_expr.specs.declared.tree.Tree.{Tree}
-use Rattle.lsys_expr.specs.Frames.{ExpressionReading, strength, reduced, follower, behind_operand, with_operand, next_reading}
+use Rattle.lsys_expr.specs.Frames.{ExpressionReading, strength, reduced, follower, once_operand, with_operand, next_reading}
 use Rattle.lsys_expr.specs.InsideExpr.{expression_spelled}
 use Rattle.lsys_expr.specs.Parts.{names_of}
 use Rattle.lsys_expr.specs.Stacks.{frame_of, frames_of, IsTakenOff}
@@ -23,8 +23,8 @@ abbrev pub reading_of : Option Tree → List Frame → ExpressionReading
 reading_of operand frames = (option_map tree_of operand, frames_of frames)
 
 -- the reading after a token
-abbrev pub reading_behind : List (List ℕ) → TokenKind → Option Tree → List Frame → Option ExpressionReading
-reading_behind formals kind operand frames =
+abbrev pub reading_after : List (List ℕ) → TokenKind → Option Tree → List Frame → Option ExpressionReading
+reading_after formals kind operand frames =
     next_reading (names_of formals) (small (kind_of kind)) (option_map tree_of operand)
     (frames_of frames)
 
@@ -36,13 +36,13 @@ operand_reading formals kind frames =
 -- the reading after a token where an operand was read
 abbrev pub follower_reading : TokenKind → Tree → List Frame → Option ExpressionReading
 follower_reading kind operand frames =
-    behind_operand (follower (small (kind_of kind))) (tree_of operand) (frames_of frames)
+    once_operand (follower (small (kind_of kind))) (tree_of operand) (frames_of frames)
 
 -- the code's reading after a token is that of the definitions
-abbrev pub IsReadBehind : List (List ℕ) → TokenKind → Option Tree → List Frame → List Frame
+abbrev pub IsReadAfter : List (List ℕ) → TokenKind → Option Tree → List Frame → List Frame
     → Option Tree → Type 0
-IsReadBehind formals kind operand old new read =
-    reading_behind formals kind operand old ≡ Some (reading_of read new)
+IsReadAfter formals kind operand old new read =
+    reading_after formals kind operand old ≡ Some (reading_of read new)
 
 abbrev pub IsReadOperand : List (List ℕ) → TokenKind → List Frame → List Frame
     → Option Tree → Type 0

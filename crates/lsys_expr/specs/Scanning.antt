@@ -2,7 +2,7 @@
 use Rattle.std.specs.Prelude.{◌≡◌, ◌<◌, ◌≤◌, ℕ, ◌+◌, Bool, true, false, List, [], ◌∷◌}
 use Rattle.lsys_syntax.specs.Expressions.{Expr}
 use Rattle.lsys_syntax.specs.ExpressionMachine as machine
-use Rattle.lsys_syntax.specs.ExpressionPlaces.{Extent, ends, stops, extent_behind}
+use Rattle.lsys_syntax.specs.ExpressionPlaces.{Extent, ends, stops, extent_after}
 use Rattle.lsys_expr.specs.declared.levels.OpenLevel.{OpenLevel}
 use Rattle.lsys_expr.specs.declared.scan.Awaited.{Awaited}
 use Rattle.lsys_expr.specs.declared.scan.Awaited.TheVariants.{Operand, Operator, SecondAnd, SecondOr}
@@ -62,11 +62,11 @@ IsSeenWithin a ls s = IsSeen a ls s × (inner_nesting ls ≤ 32)
 
 -- whatever follows, an expression ends before the token that makes t of the state s
 abbrev pub EndsThere : machine.ExpressionState → machine.ExpressionState → Type 0
-EndsThere s t = (e : Expr) × ((n : ℕ) (rest : Extent) → extent_behind n s t rest ≡ ends n e)
+EndsThere s t = (e : Expr) × ((n : ℕ) (rest : Extent) → extent_after n s t rest ≡ ends n e)
 
 -- whatever follows, none goes on with that token, and what stands before it is none
 abbrev pub StopsThere : machine.ExpressionState → machine.ExpressionState → Type 0
-StopsThere s t = (n : ℕ) (rest : Extent) → extent_behind n s t rest ≡ stops n
+StopsThere s t = (n : ℕ) (rest : Extent) → extent_after n s t rest ≡ stops n
 
 -- what a token does that makes t of the state s
 abbrev pub IsTokenOutcome : Awaited → List OpenLevel → TokenEffect → machine.ExpressionState → machine.ExpressionState → Type 0

@@ -6,7 +6,7 @@ ghost use Rattle.lsys_spec.specs.Values.{expr_tree};
 ghost use Rattle.lsys_text.specs.Tokens.{kind_of};
 ghost use Rattle.lsys_expr.specs.Parts.{names_of, stretch, unknown_in};
 ghost use Rattle.lsys_expr.specs.Trees.{tree_of};
-ghost use Rattle.lsys_expr.specs.ReadSteps.{spelled_tree, reading_behind, operand_reading, follower_reading, IsReadBehind, IsReadOperand, IsReadFollower, CanBeginFrame, BeginsFrame};
+ghost use Rattle.lsys_expr.specs.ReadSteps.{spelled_tree, reading_after, operand_reading, follower_reading, IsReadAfter, IsReadOperand, IsReadFollower, CanBeginFrame, BeginsFrame};
 
 use crate::constant::Constant;
 use crate::expr::Expr;
@@ -80,10 +80,10 @@ fn read_token(
     frames: &mut Vec<Frame>,
     formals: &[Name],
 ) -> Result<Option<Tree>, AllocError>
-    requires possible { IsSome (reading_behind formals.now kind operand frames.old.items) }
+    requires possible { IsSome (reading_after formals.now kind operand frames.old.items) }
     requires known { is_unknown (names_of formals.now) (kind_of kind) ≡ false }
     requires few { length formals.now ≤ 256 }
-    ensures { IfOk result (IsReadBehind formals.now kind operand frames.old.items frames.new.items) }
+    ensures { IfOk result (IsReadAfter formals.now kind operand frames.old.items frames.new.items) }
 {
     match operand {
         None => read_operand(kind, frames, formals),

@@ -16,21 +16,21 @@ use Rattle.lsys_syntax.specs.Commands.{Numbering, by_place, by_name}
 use Rattle.lsys_module.specs.Views.{symbol_of, string_of}
 use Rattle.lsys_module.specs.declared.symbol.Symbol.{Symbol}
 use Rattle.lsys_module.specs.declared.symbol.Symbol.TheVariants as code
-use Rattle.lsys_rewrite.specs.Cutting.{symbol_stays, cutting_behind}
+use Rattle.lsys_rewrite.specs.Cutting.{symbol_stays, next_cutting}
 use Rattle.lsys_flat.specs.declared.origin.Origin.{Origin}
 use Rattle.lsys_flat.proofs.Naming.{drop_there}
 use Rattle.lsys_flat.specs.Origins.{origin_number, IsChild, AreChildren}
 use Rattle.lsys_flat.specs.declared.numbers.ChildNumbers.{ChildNumbers}
 use Rattle.lsys_flat.specs.Counts.{origin_at, HasNumbered}
-use Rattle.lsys_flat.specs.Grown.{Grown, grown_by_symbol, where_room, with_child, with_children, cutting_behind_all, HasSymbols, HoldsCut, HasGrown}
+use Rattle.lsys_flat.specs.Grown.{Grown, grown_by_symbol, where_room, with_child, with_children, cutting_after_all, HasSymbols, HoldsCut, HasGrown}
 
 -- 1. one symbol more, cut
 
-after_more : (o : Option ℕ) (x : List Raw) (r : Raw) → cutting_behind_all o (x ++ r ∷ []) ≡ cutting_behind (cutting_behind_all o x) (raw_plain r)
+after_more : (o : Option ℕ) (x : List Raw) (r : Raw) → cutting_after_all o (x ++ r ∷ []) ≡ next_cutting (cutting_after_all o x) (raw_plain r)
 after_more o [] r = refl
-after_more o (s ∷ x) r = after_more (cutting_behind o (raw_plain s)) x r
+after_more o (s ∷ x) r = after_more (next_cutting o (raw_plain s)) x r
 
-cut_more : (o : Option ℕ) (x : List Raw) (r : Raw) → cut_on o (x ++ r ∷ []) ≡ cut_on o x ++ cut_on (cutting_behind_all o x) (r ∷ [])
+cut_more : (o : Option ℕ) (x : List Raw) (r : Raw) → cut_on o (x ++ r ∷ []) ≡ cut_on o x ++ cut_on (cutting_after_all o x) (r ∷ [])
 cut_more None [] r = refl
 cut_more (Some n) [] r = refl
 cut_more None (Cut l ∷ x) r = cut_more (Some 0) x r
@@ -105,18 +105,15 @@ more_symbols seed above y symbols origins keys parent a o key s h e l small g k 
 module _ (seed : ℕ) (above : List L.LevelSymbol) (raw : List Raw) (g : Grown) (parent : L.LevelSymbol) (o : Origin) (key : ℕ) (s : Symbol) (r : Raw) (h : HasGrown seed above raw g) (e : raw_plain r ≡ symbol_of s)
     (l : raw_lineage r ≡ lineage parent ++ origin_number o ∷ []) (small : o.count < number_base) (there : slice_get above o.parent ≡ Some parent) (k : key ≡ key_of seed (lineage parent)) where
   longer : g.room < length (cut raw) → g.room < length (cut (raw ++ r ∷ []))
-  longer n = omega (arith, ap length (cut_more None raw r), length-append (cut raw) (cut_on (cutting_behind_all None raw) (r ∷ [])))
+  longer n = omega (arith, ap length (cut_more None raw r), length-append (cut raw) (cut_on (cutting_after_all None raw) (r ∷ [])))
 
-  behind : Grown
-  behind = record g { cutting = cutting_behind g.cutting (symbol_of s) }
+  cutting_now : g.cutting ≡ cutting_after_all None raw → next_cutting g.cutting (symbol_of s) ≡ cutting_after_all None (raw ++ r ∷ [])
+  cutting_now c = (λ i. next_cutting (c i) (sym e i)) ∙ sym (after_more None raw r)
 
-  cutting_now : g.cutting ≡ cutting_behind_all None raw → cutting_behind g.cutting (symbol_of s) ≡ cutting_behind_all None (raw ++ r ∷ [])
-  cutting_now c = (λ i. cutting_behind (c i) (sym e i)) ∙ sym (after_more None raw r)
-
-  left_now : (xs : List L.LevelSymbol) → g.cutting ≡ cutting_behind_all None raw → cut_on g.cutting (r ∷ []) ≡ xs → cut (raw ++ r ∷ []) ≡ cut raw ++ xs
+  left_now : (xs : List L.LevelSymbol) → g.cutting ≡ cutting_after_all None raw → cut_on g.cutting (r ∷ []) ≡ xs → cut (raw ++ r ∷ []) ≡ cut raw ++ xs
   left_now xs c d = cut_more None raw r ∙ ap (λ o. cut raw ++ cut_on o (r ∷ [])) (sym c) ∙ ap (λ ys. cut raw ++ ys) d
 
-  passes : symbol_stays g.cutting (symbol_of s) ≡ false → g.fits ≡ true → HasGrown seed above (raw ++ r ∷ []) (record g { cutting = cutting_behind g.cutting (symbol_of s) })
+  passes : symbol_stays g.cutting (symbol_of s) ≡ false → g.fits ≡ true → HasGrown seed above (raw ++ r ∷ []) (record g { cutting = next_cutting g.cutting (symbol_of s) })
   passes b f =
       let was : HoldsCut seed above raw g = h.holds f in
       let same : cut (raw ++ r ∷ []) ≡ cut raw = left_now [] was.cutting (passed g.cutting r (ap (symbol_stays g.cutting) e ∙ b)) ∙ append-nil (cut raw) in
@@ -129,7 +126,7 @@ module _ (seed : ℕ) (above : List L.LevelSymbol) (raw : List Raw) (g : Grown) 
         over = λ i. let no : true ≡ false = sym f ∙ i in cc;
       }
 
-  stays_on : symbol_stays g.cutting (symbol_of s) ≡ true → g.fits ≡ true → HasGrown seed above (raw ++ r ∷ []) (where_room o key s (record g { cutting = cutting_behind g.cutting (symbol_of s) }))
+  stays_on : symbol_stays g.cutting (symbol_of s) ≡ true → g.fits ≡ true → HasGrown seed above (raw ++ r ∷ []) (where_room o key s (record g { cutting = next_cutting g.cutting (symbol_of s) }))
   stays_on b f = by (length g.symbols == g.room) refl
     where
       was : HoldsCut seed above raw g
@@ -148,7 +145,7 @@ module _ (seed : ℕ) (above : List L.LevelSymbol) (raw : List Raw) (g : Grown) 
       size = ap length whole ∙ length-append (cut raw) (it.0 ∷ [])
 
       by : (b : Bool) → length g.symbols == g.room ≡ b
-          → HasGrown seed above (raw ++ r ∷ []) (cond b (record g { cutting = cutting_behind g.cutting (symbol_of s); fits = false }) (grown_by_symbol o key s (record g { cutting = cutting_behind g.cutting (symbol_of s) })))
+          → HasGrown seed above (raw ++ r ∷ []) (cond b (record g { cutting = next_cutting g.cutting (symbol_of s); fits = false }) (grown_by_symbol o key s (record g { cutting = next_cutting g.cutting (symbol_of s) })))
       by true full = record {
         holds = λ i. cc;
         over = λ i. let all : length g.symbols ≡ g.room = eqb-true (length g.symbols) g.room full in omega (arith, all, count, size);
@@ -167,13 +164,13 @@ module _ (seed : ℕ) (above : List L.LevelSymbol) (raw : List Raw) (g : Grown) 
   child_grown = by g.fits refl
     where
       by_stays : g.fits ≡ true → (b : Bool) → symbol_stays g.cutting (symbol_of s) ≡ b
-          → HasGrown seed above (raw ++ r ∷ []) (cond b (where_room o key s (record g { cutting = cutting_behind g.cutting (symbol_of s) })) (record g { cutting = cutting_behind g.cutting (symbol_of s) }))
+          → HasGrown seed above (raw ++ r ∷ []) (cond b (where_room o key s (record g { cutting = next_cutting g.cutting (symbol_of s) })) (record g { cutting = next_cutting g.cutting (symbol_of s) }))
       by_stays f true b = stays_on b f
       by_stays f false b = passes b f
 
       by : (b : Bool) → g.fits ≡ b
           → HasGrown seed above (raw ++ r ∷ [])
-          (cond b (cond (symbol_stays g.cutting (symbol_of s)) (where_room o key s (record g { cutting = cutting_behind g.cutting (symbol_of s) })) (record g { cutting = cutting_behind g.cutting (symbol_of s) })) g)
+          (cond b (cond (symbol_stays g.cutting (symbol_of s)) (where_room o key s (record g { cutting = next_cutting g.cutting (symbol_of s) })) (record g { cutting = next_cutting g.cutting (symbol_of s) })) g)
       by true f = by_stays f (symbol_stays g.cutting (symbol_of s)) refl
       by false f = record {
         holds = λ i. let no : false ≡ true = sym f ∙ i in cc;
@@ -232,21 +229,21 @@ all_added g parent key n before ss now whole l e = ap (λ rest. with_children g 
 -- the children that were added, and what is left to add
 pub record AreAdded (g : Numbering) (parent key : ℕ) (ss : List Symbol) (first : Grown) (place : ℕ) (numbers : ChildNumbers) (made : Grown) : Type 0 where
   pub before : List ℕ
-  pub behind : HasNumbered place before numbers
+  pub after : HasNumbered place before numbers
   pub told : with_children g parent key place before (drop place ss) made ≡ with_children g parent key 0 [] ss first
 
 pub one_added : (g : Numbering) (parent key : ℕ) (ss : List Symbol) (first : Grown) (place : ℕ) (numbers after : ChildNumbers) (made now : Grown) (s : Symbol) (o : Origin) → AreAdded g parent key ss first place numbers made
     → slice_get ss place ≡ Some s → ((n : ℕ) (before : List ℕ) → HasNumbered n before numbers → o ≡ origin_at g parent n before (code_of (symbol_of s)))
     → ((n : ℕ) (before : List ℕ) → HasNumbered n before numbers → HasNumbered (n + 1) (code_of (symbol_of s) ∷ before) after) → now ≡ with_child o key s made → AreAdded g parent key ss first (place + 1) after now
-one_added g parent key ss first place numbers after made now s o h there origin behind child = record {
+one_added g parent key ss first place numbers after made now s o h there origin goes child = record {
   before = code_of (symbol_of s) ∷ h.before;
-  behind = behind place h.before h.behind;
+  after = goes place h.before h.after;
   told =
-      ap (with_children g parent key (place + 1) (code_of (symbol_of s) ∷ h.before) (drop (place + 1) ss)) (child ∙ ap (λ o. with_child o key s made) (origin place h.before h.behind))
+      ap (with_children g parent key (place + 1) (code_of (symbol_of s) ∷ h.before) (drop (place + 1) ss)) (child ∙ ap (λ o. with_child o key s made) (origin place h.before h.after))
       ∙ ap (λ rest. with_children g parent key place h.before rest made) (sym (drop_there ss place s there)) ∙ h.told;
 }
 
 pub small_origin : (g : Numbering) (parent key : ℕ) (ss : List Symbol) (first : Grown) (place : ℕ) (numbers : ChildNumbers) (made : Grown) (s : Symbol) (o : Origin) → AreAdded g parent key ss first place numbers made → place < number_base
     → ((n : ℕ) (before : List ℕ) → HasNumbered n before numbers → o ≡ origin_at g parent n before (code_of (symbol_of s))) → o.count < number_base
 small_origin g parent key ss first place numbers made s o h l origin =
-    subst (λ o. o.count < number_base) (sym (origin place h.before h.behind)) (small_count g parent place h.before (code_of (symbol_of s)) h.behind.length l)
+    subst (λ o. o.count < number_base) (sym (origin place h.before h.after)) (small_count g parent place h.before (code_of (symbol_of s)) h.after.length l)

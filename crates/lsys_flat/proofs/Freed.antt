@@ -108,18 +108,18 @@ pub record IsOwnLevel (s : Store) (slots : List (Option Kept)) : Type 0 where
   pub own : AllHoldOwnRuns (slots ∷ [])
 
 module _ (before mid : Store) (slots front : List (Option Kept)) (b : Kept) (owns : IsOwnLevel before slots) (is : IsFront slots front) (here : get_or slots (length front) None ≡ Some b) (h : Freed before mid (InSlots front)) where
-  own_behind : (a : Kept) → InSlots front a → HoldOwnRuns a b
-  own_behind a k =
+  own_after : (a : Kept) → InSlots front a → HoldOwnRuns a b
+  own_after a k =
       let p : k.0 < length front = place_within front k.0 a k.1 in
       owns.own.each 0 k.0 0 (length front) a b (sym (is.same k.0 p) ∙ k.1) here (λ t e. omega (arith, p, e))
 
   pub slot_live : AreLive mid (runs_of b)
-  slot_live = (stays_freed before mid (InSlots front) b h own_behind (owns.made.each 0 (length front) b here)).made.live
+  slot_live = (stays_freed before mid (InSlots front) b h own_after (owns.made.each 0 (length front) b here)).made.live
 
   pub slot_freed : (after : Store) → AreGone after (runs_of b) → OtherTracesStay mid after (runs_of b) → Freed before after (InSlots (front ++ Some b ∷ []))
   slot_freed after g o =
       freed_as before after (λ a. InSlots front a ⊎ (a ≡ b)) (InSlots (front ++ Some b ∷ []))
-      (freed_then before mid after (InSlots front) (λ a. a ≡ b) h (freed_one mid after b g o) (λ a c k e. subst (HoldOwnRuns a) (sym e) (own_behind a k)))
+      (freed_then before mid after (InSlots front) (λ a. a ≡ b) h (freed_one mid after b g o) (λ a c k e. subst (HoldOwnRuns a) (sym e) (own_after a k)))
       into back
     where
       into : (a : Kept) → InSlots front a ⊎ (a ≡ b) → InSlots (front ++ Some b ∷ []) a
@@ -201,8 +201,8 @@ module _ (before mid : Store) (kept front : List (List (Option Kept))) (slots : 
   there : (p : ℕ) (b : Kept) → get_or slots p None ≡ Some b → answer_on_level kept (length front) p ≡ Some b
   there p b e = ap (λ (s : List (Option Kept)). get_or s p None) here ∙ e
 
-  own_level_behind : (a b : Kept) → InLevels front a → InSlots slots b → HoldOwnRuns a b
-  own_level_behind a b k l =
+  own_level_after : (a b : Kept) → InLevels front a → InSlots slots b → HoldOwnRuns a b
+  own_level_after a b k l =
       let t : k.0 < length front = level_within front k.0 k.1.0 a k.1.1 in
       own.each k.0 k.1.0 (length front) l.0 a b (ap (λ (s : List (Option Kept)). get_or s k.1.0 None) (sym (is.same k.0 t)) ∙ k.1.1) (there l.0 b l.1) (λ e f. omega (arith, t, e))
 
@@ -210,7 +210,7 @@ module _ (before mid : Store) (kept front : List (List (Option Kept))) (slots : 
   level_made = record {
     each = λ t p a e.
         let r = of_one slots t p a e in
-        (stays_freed before mid (InLevels front) a h (λ b k. own_level_behind b a k (p, r.1)) (made.each (length front) p a (there p a r.1))).made;
+        (stays_freed before mid (InLevels front) a h (λ b k. own_level_after b a k (p, r.1)) (made.each (length front) p a (there p a r.1))).made;
   }
 
   pub level_own : AllHoldOwnRuns (slots ∷ [])
@@ -224,7 +224,7 @@ module _ (before mid : Store) (kept front : List (List (Option Kept))) (slots : 
   pub level_freed : (after : Store) → AreReleased mid after (slots ∷ []) → Freed before after (InLevels (front ++ slots ∷ []))
   level_freed after k =
       freed_as before after (λ a. InLevels front a ⊎ InSlots slots a) (InLevels (front ++ slots ∷ []))
-      (freed_then before mid after (InLevels front) (InSlots slots) h (freed_of_one mid after slots k) own_level_behind)
+      (freed_then before mid after (InLevels front) (InSlots slots) h (freed_of_one mid after slots k) own_level_after)
       into (λ a l. at_more front slots l.0 l.1.0 a l.1.1)
     where
       into : (a : Kept) → InLevels front a ⊎ InSlots slots a → InLevels (front ++ slots ∷ []) a

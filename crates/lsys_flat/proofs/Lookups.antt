@@ -46,7 +46,7 @@ found_nowhere ps o i h r p s =
     let parted = r (searchable_from_sorted origins_ordered (λ p. p.origin) ps o h) in
     elim (cases_lt s.0 i) [
       | inl before ↦ let less : Less ≡ Equal = sym (parted.0 s.0 x (omega arith) before) ∙ there in cc
-      | inr behind ↦ let greater : Greater ≡ Equal = sym (parted.1 s.0 x behind s.1) ∙ there in cc
+      | inr after ↦ let greater : Greater ≡ Equal = sym (parted.1 s.0 x after s.1) ∙ there in cc
     ]
 
 -- a front of the origins with their places
@@ -62,8 +62,8 @@ front_more old placed i o h g = record {
   each = All-push (λ p. slice_get old p.place ≡ Some p.origin) placed (record { origin = o; place = i }) h.each g;
   whole = λ p u l e. elim (cases_lt p i) [
     | inl before ↦ Contains-append_left placed _ _ (h.whole p u before e)
-    | inr behind ↦
-        let here : p ≡ i = omega (arith, l, behind) in
+    | inr after ↦
+        let here : p ≡ i = omega (arith, l, after) in
         let same : u ≡ o = let both : Some u ≡ Some o = sym e ∙ ap (slice_get old) here ∙ g in cc in
         subst (Contains (placed ++ record { origin = o; place = i } ∷ [])) (λ j. record { origin = sym same j; place = sym here j }) (Contains-push placed (record { origin = o; place = i }))
   ];

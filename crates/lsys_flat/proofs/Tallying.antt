@@ -18,15 +18,15 @@ pub record HasMoreRoom (old new : Supply) : Type 0 where
   pub marks : KeepsMarks old new
   pub same : tags_used new.used ≡ tags_used old.used
 
-none_behind : (used : List Bool) (k : ℕ) → in_use (used ++ false ∷ []) k ≡ in_use used k
-none_behind [] zero = refl
-none_behind [] (suc k) = refl
-none_behind (b ∷ used) zero = refl
-none_behind (b ∷ used) (suc k) = none_behind used k
+none_after : (used : List Bool) (k : ℕ) → in_use (used ++ false ∷ []) k ≡ in_use used k
+none_after [] zero = refl
+none_after [] (suc k) = refl
+none_after (b ∷ used) zero = refl
+none_after (b ∷ used) (suc k) = none_after used k
 
 pub one_more : (old : Supply) (used : List Bool) (next : ℕ) → HasMoreRoom old (record { used = used; next = next }) → HasMoreRoom old (record { used = used ++ false ∷ []; next = next })
 one_more old used next h = record {
-  marks = record { used = λ k. none_behind used k ∙ h.marks.used k; next = h.marks.next };
+  marks = record { used = λ k. none_after used k ∙ h.marks.used k; next = h.marks.next };
   same = sum_by_push (λ b. cond b 1 0) used false ∙ omega (arith, h.same);
 }
 

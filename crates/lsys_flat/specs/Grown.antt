@@ -13,7 +13,7 @@ use Rattle.lsys_spec.specs.Meaning.{children}
 use Rattle.lsys_module.specs.Views.{symbol_of, string_of}
 use Rattle.lsys_module.specs.declared.symbol.Symbol.{Symbol}
 use Rattle.lsys_reading.specs.Commands.{numbering_of}
-use Rattle.lsys_rewrite.specs.Cutting.{symbol_stays, cutting_behind}
+use Rattle.lsys_rewrite.specs.Cutting.{symbol_stays, next_cutting}
 use Rattle.lsys_flat.specs.declared.origin.Origin.{Origin}
 use Rattle.lsys_flat.specs.Origins.{origin_number, AreChildren}
 use Rattle.lsys_flat.specs.Counts.{origin_at}
@@ -52,8 +52,8 @@ where_room o key s g = if length g.symbols == g.room then record g { fits = fals
 -- one child more, which may be cut off
 abbrev pub with_child : Origin → ℕ → Symbol → Grown → Grown
 with_child o key s g =
-    let behind = record g { cutting = cutting_behind g.cutting (symbol_of s) } in
-    if g.fits then (if symbol_stays g.cutting (symbol_of s) then where_room o key s behind else behind) else g
+    let further = record g { cutting = next_cutting g.cutting (symbol_of s) } in
+    if g.fits then (if symbol_stays g.cutting (symbol_of s) then where_room o key s further else further) else g
 
 -- children more of the symbol at a place, after n of them that have these codes
 abbrev pub with_children : Numbering → ℕ → ℕ → ℕ → List ℕ → List Symbol → Grown → Grown
@@ -64,9 +64,9 @@ with_children g parent key n before (s ∷ ss) made =
 -- 2. by the definitions
 
 -- after these symbols, whether a branch is being cut off and how many others are open in it
-abbrev pub cutting_behind_all : Option ℕ → List Raw → Option ℕ
-cutting_behind_all o [] = o
-cutting_behind_all o (r ∷ x) = cutting_behind_all (cutting_behind o (raw_plain r)) x
+abbrev pub cutting_after_all : Option ℕ → List Raw → Option ℕ
+cutting_after_all o [] = o
+cutting_after_all o (r ∷ x) = cutting_after_all (next_cutting o (raw_plain r)) x
 
 -- the symbols of a level y, each with its origin in the level above it and its key
 pub record HasSymbols (seed : ℕ) (above y : List L.LevelSymbol) (symbols : List Symbol) (origins : List Origin) (ks : List ℕ) : Type 0 where
@@ -75,7 +75,7 @@ pub record HasSymbols (seed : ℕ) (above y : List L.LevelSymbol) (symbols : Lis
   pub keys : ks ≡ map (λ s. key_of seed (lineage s)) y
 
 pub record HoldsCut (seed : ℕ) (above : List L.LevelSymbol) (raw : List Raw) (g : Grown) : Type 0 where
-  pub cutting : g.cutting ≡ cutting_behind_all None raw
+  pub cutting : g.cutting ≡ cutting_after_all None raw
   pub symbols : HasSymbols seed above (cut raw) g.symbols g.origins g.keys
   pub within : length (cut raw) ≤ g.room
 

@@ -8,7 +8,7 @@ use crate::level::Level;
 use crate::numbers::ChildNumbers;
 use lsys_draw::child_key;
 use lsys_module::{Symbol, SymbolList};
-use lsys_rewrite::{cutting_behind, stays};
+use lsys_rewrite::{next_cutting, stays};
 use std::alloc::{AllocError, Global};
 use std::marker::Model;
 
@@ -102,7 +102,7 @@ impl Made {
             return Ok(());
         }
         let is_kept = stays(self.cutting, symbol);
-        self.cutting = cutting_behind(self.cutting, symbol);
+        self.cutting = next_cutting(self.cutting, symbol);
         if is_kept {
             self.add_symbol(origin, key, symbol)?;
         }

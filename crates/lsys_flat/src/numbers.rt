@@ -32,7 +32,7 @@ impl ChildNumbers {
 
     /// Begins with the children of another symbol.
     pub(crate) fn begin(&mut self)
-        ensures behind { HasNumbered 0 [] self.new }
+        ensures after { HasNumbered 0 [] self.new }
         ensures numbering { self.new.numbering ≡ self.old.numbering }
     {
         self.children = 0;
@@ -43,7 +43,7 @@ impl ChildNumbers {
     pub(crate) fn next(&mut self, parent: u32, child: &Symbol) -> Result<Origin, AllocError>
         requires few { HasNumbersLeft self.old }
         ensures origin { IfOk result (IsNextOrigin self.old parent child.now) }
-        ensures behind { OnOk result (CountsChild child.now self.old self.new) }
+        ensures after { OnOk result (CountsChild child.now self.old self.new) }
         ensures numbering { self.new.numbering ≡ self.old.numbering }
     {
         let place = self.children;

@@ -70,14 +70,14 @@ chain_push row kid last old new is apart joins chained = λ k way b a whole. eli
           | inr far ↦ ap (link_in Left) (joins.others k ne (λ f. far (same_Some k j (sym f ∙ e))))
         ]
 
-    behind : (k : ℕ) (b rest : List ℕ) → k ≢ kid → row ≡ b ++ k ∷ rest → link_at Right new k ≡ first_in (rest ++ kid ∷ [])
-    behind k b [] ne e = (joins.joined k (is ∙ ap (λ (l : List ℕ). first_in (mirrored l)) e ∙ ap first_in (mirrored_push b k))).0
-    behind k b (x ∷ rest) ne e =
+    after : (k : ℕ) (b rest : List ℕ) → k ≢ kid → row ≡ b ++ k ∷ rest → link_at Right new k ≡ first_in (rest ++ kid ∷ [])
+    after k b [] ne e = (joins.joined k (is ∙ ap (λ (l : List ℕ). first_in (mirrored l)) e ∙ ap first_in (mirrored_push b k))).0
+    after k b (x ∷ rest) ne e =
         ap (link_in Right) (joins.others k ne (λ f. (let none = ap length (last_ends row b (x ∷ rest) k apart_row (sym is ∙ f) e) in omega (arith, none))))
         ∙ chained k Right b (x ∷ rest) e
 
     there : (way : Way) (k : ℕ) (b a : List ℕ) → k ≢ kid → oriented way (row ++ kid ∷ []) ≡ b ++ k ∷ a → link_at way new k ≡ first_in a
-    there Right k b a ne whole = let s = push_split row kid b k a apart ne whole in behind k b s.0 ne s.1 ∙ ap first_in (sym s.2)
+    there Right k b a ne whole = let s = push_split row kid b k a apart ne whole in after k b s.0 ne s.1 ∙ ap first_in (sym s.2)
     there Left k [] a ne whole = absurd (ne (sym (head_is (mirrored row) a kid k (sym (mirrored_push row kid) ∙ whole))))
     there Left k (y ∷ b) a ne whole = left_stays k ne ∙ chained k Left b a (tail_is (mirrored row) (b ++ k ∷ a) kid y (sym (mirrored_push row kid) ∙ whole))
 

@@ -57,12 +57,12 @@ none_closes (L.Pop l ∷ x) (suc n) zero b le = absurd (omega (arith, le))
 none_closes (L.Pop l ∷ x) (suc n) (suc j) b le = ap (option_map (λ q. q + 1)) (none_closes x n j b (omega (arith, le)))
 
 -- a balanced level is balanced after each front, where some branches are open
-behind_front : (x y : List L.LevelSymbol) (n : ℕ) → level_balanced n (x ++ y) ≡ true → (k : ℕ) × (level_balanced k y ≡ true)
-behind_front [] y n b = (n, b)
-behind_front (L.Module l m ∷ x) y n b = behind_front x y n b
-behind_front (L.Push l ∷ x) y n b = behind_front x y (suc n) b
-behind_front (L.Pop l ∷ x) y zero b = absurd (grind (arith, b))
-behind_front (L.Pop l ∷ x) y (suc n) b = behind_front x y n b
+after_front : (x y : List L.LevelSymbol) (n : ℕ) → level_balanced n (x ++ y) ≡ true → (k : ℕ) × (level_balanced k y ≡ true)
+after_front [] y n b = (n, b)
+after_front (L.Module l m ∷ x) y n b = after_front x y n b
+after_front (L.Push l ∷ x) y n b = after_front x y (suc n) b
+after_front (L.Pop l ∷ x) y zero b = absurd (grind (arith, b))
+after_front (L.Pop l ∷ x) y (suc n) b = after_front x y n b
 
 one_on : (g : ℕ) (o : Option ℕ) → option_map (λ q. g + q) (option_map (λ q. q + 1) o) ≡ option_map (λ q. g + 1 + q) o
 one_on g None = refl
@@ -316,7 +316,7 @@ module _ {A : Type 0} where
       let none = none_first w.ahead (sym w.at_is) in
       let x : seen_level (λ tag. []) m level ≡ seen_level (λ tag. []) m w.before ++ L.Push [] ∷ seen_level (λ tag. []) m w.after =
       ap (seen_level (λ tag. []) m) w.whole ∙ seen_append (λ tag. []) m w.before (node ∷ w.after) ∙ ap (λ (s : L.LevelSymbol). seen_level (λ tag. []) m w.before ++ s ∷ seen_level (λ tag. []) m w.after) (head_is (λ tag. []) m node top Push is bracket) in
-      let b = behind_front (seen_level (λ tag. []) m w.before) (L.Push [] ∷ seen_level (λ tag. []) m w.after) 0 (sym (ap (level_balanced 0) x) ∙ balanced) in
+      let b = after_front (seen_level (λ tag. []) m w.before) (L.Push [] ∷ seen_level (λ tag. []) m w.after) 0 (sym (ap (level_balanced 0) x) ∙ balanced) in
       let some = closes (seen_level (λ tag. []) m w.after) (suc b.0) 0 b.1 (omega arith) in
       some_none (close_of 0 (seen_level (λ tag. []) m w.after)) some (w.count (λ tag. []) ∙ ap (λ (l : List ℕ). option_map (λ i. length w.between + i) (close_of inside (seen_level (λ tag. []) m l))) none)
   walk_ends Left m level node inside top balanced is bracket w =

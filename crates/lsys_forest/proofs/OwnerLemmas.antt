@@ -217,7 +217,7 @@ module _ {T : Type 0} where
   -- each list that is held shows as it did
   pub record Shows (old new : Pool T) (now past : List (Option ℕ)) (hand : Option ℕ) : Type 0 where
     pub rows : (k : ℕ) → run_list new (run_at now k) ≡ run_list old (run_at now k)
-    pub behind : map (run_list new) past ≡ map (run_list old) past
+    pub after : map (run_list new) past ≡ map (run_list old) past
     pub here : run_list new hand ≡ run_list old hand
 
   map_same : (old new : Pool T) (runs : List (Option ℕ)) → ((k : ℕ) (run : Option ℕ) → slice_get runs k ≡ Some run → list_of new run ≡ list_of old run) → map (run_list new) runs ≡ map (run_list old) runs
@@ -229,7 +229,7 @@ module _ {T : Type 0} where
   shows : (old new : Pool T) (now past : List (Option ℕ)) (hand : Option ℕ) (caller : Option (Option ℕ)) → Keeps old new (held now past hand caller) → Shows old new now past hand
   shows old new now past hand caller keeps = record {
     rows = λ k. ap (λ (o : Option (List T)). unwrap_or o []) (keeps.same (Number k) (run_at now k) refl);
-    behind = map_same old new past (λ k run e. keeps.same (Past k) run e);
+    after = map_same old new past (λ k run e. keeps.same (Past k) run e);
     here = ap (λ (o : Option (List T)). unwrap_or o []) (keeps.same Hand hand refl);
   }
 
@@ -347,7 +347,7 @@ module _ {T : Type 0} where
   pub Shows-slots : (old new : Pool T) (now past : List (Option ℕ)) (hand : Option ℕ) → new.slots ≡ old.slots → Shows old new now past hand
   Shows-slots old new now past hand same = record {
     rows = λ k. ap (λ (o : Option (List T)). unwrap_or o []) (lists_same old new same (run_at now k));
-    behind = map_same old new past (λ k run e. lists_same old new same run);
+    after = map_same old new past (λ k run e. lists_same old new same run);
     here = ap (λ (o : Option (List T)). unwrap_or o []) (lists_same old new same hand);
   }
 

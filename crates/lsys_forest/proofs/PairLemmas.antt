@@ -81,7 +81,7 @@ pairing_on seen passed node old new opener next apart e was = record {
         ∙ ap (λ (l : List ℕ). first_of_two (branch_end Right seen 0 l) (branch_end Left seen 0 (mirrored b))) sides.1
     | inr far ↦
         let s = push_split passed node b k a apart far whole in
-        behind k b s.0 far s.1 push (run_of Right seen 0 s.0) refl ∙ ap (λ (l : List ℕ). first_of_two (branch_end Right seen 0 l) (branch_end Left seen 0 (mirrored b))) (sym s.2)
+        after k b s.0 far s.1 push (run_of Right seen 0 s.0) refl ∙ ap (λ (l : List ℕ). first_of_two (branch_end Right seen 0 l) (branch_end Left seen 0 (mirrored b))) (sym s.2)
   ];
 }
   where
@@ -101,14 +101,14 @@ pairing_on seen passed node old new opener next apart e was = record {
         ap (λ (f : Footing). f.mate) (e.others k (λ bracket. far) (λ ends f. (let no : 0 ≡ suc d = same_Some 0 (suc d) (sym (open_inside seen passed b rest k apart_row whole (sym was.open_is ∙ f)) ∙ run) in omega (arith, no))))
         ∙ was.begun k b rest whole push ∙ ap (λ o. first_of_two o (branch_end Left seen 0 (mirrored b))) (end_none Right seen 0 rest (suc d) run)
 
-    behind : (k : ℕ) (b rest : List ℕ) → k ≢ node → passed ≡ b ++ k ∷ rest → seen k ≡ Push → (o : Option ℕ) → run_of Right seen 0 rest ≡ o → footing_mate new k ≡ first_of_two (branch_end Right seen 0 (rest ++ node ∷ [])) (branch_end Left seen 0 (mirrored b))
-    behind k b rest far whole push None run =
+    after : (k : ℕ) (b rest : List ℕ) → k ≢ node → passed ≡ b ++ k ∷ rest → seen k ≡ Push → (o : Option ℕ) → run_of Right seen 0 rest ≡ o → footing_mate new k ≡ first_of_two (branch_end Right seen 0 (rest ++ node ∷ [])) (branch_end Left seen 0 (mirrored b))
+    after k b rest far whole push None run =
         let q = end_in Right seen 0 rest run in
         let ended : branch_end Right seen 0 rest ≡ Some q.0 = ap (branch_end Right seen 0) (sym (append-nil rest)) ∙ q.1 [] in
         ap (λ (f : Footing). f.mate) (e.others k (λ bracket. far) (λ ends f. none-some 0 (sym run ∙ open_inside seen passed b rest k apart_row whole (sym was.open_is ∙ f))))
         ∙ was.begun k b rest whole push
         ∙ ap (λ o. first_of_two o (branch_end Left seen 0 (mirrored b))) (ended ∙ sym (q.1 (node ∷ [])))
-    behind k b rest far whole push (Some d) run =
+    after k b rest far whole push (Some d) run =
         still k b rest d (seen node) far whole push run refl
         ∙ ap (λ o. first_of_two o (branch_end Left seen 0 (mirrored b))) (sym (end_on Right seen 0 rest (node ∷ []) d run))
 

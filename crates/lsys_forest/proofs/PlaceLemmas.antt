@@ -52,8 +52,8 @@ across f xs p q i j k l apart flats h g ne e d =
           (λ x. omega (arith, x, a.0), λ x. omega (arith, x, a.1))
       | inr late ↦ elim late [
         | inl same ↦ absurd (ne (sym same))
-        | inr behind ↦
-            let r = In_split q s.1 behind in
+        | inr after ↦
+            let r = In_split q s.1 after in
             let whole : xs ≡ s.0 ++ p ∷ (r.0 ++ q ∷ r.1) = s.2 ∙ ap (λ (x : List ℕ). s.0 ++ p ∷ x) r.2 in
             let a = ahead f xs s.0 p r.0 q r.1 i j k l apart flats whole e d in
             (λ x. a.1, λ x. a.0)

@@ -31,15 +31,15 @@ module _ {T : Type 0} where
   row_is pool now k = part_at (run_list pool) now k None
 
   -- the last of the past lists is this one
-  pub last_shown : (pool : Pool T) (past : List (Option ℕ)) (run : Option ℕ) (behind : List (List T)) (list : List T) → map (run_list pool) (past ++ run ∷ []) ≡ behind ++ list ∷ [] → (map (run_list pool) past ≡ behind) × (run_list pool run ≡ list)
-  last_shown pool past run behind list is = same_from_push (map (run_list pool) past) behind (run_list pool run) list (sym (map_push (run_list pool) past run) ∙ is)
+  pub last_shown : (pool : Pool T) (past : List (Option ℕ)) (run : Option ℕ) (after : List (List T)) (list : List T) → map (run_list pool) (past ++ run ∷ []) ≡ after ++ list ∷ [] → (map (run_list pool) past ≡ after) × (run_list pool run ≡ list)
+  last_shown pool past run after list is = same_from_push (map (run_list pool) past) after (run_list pool run) list (sym (map_push (run_list pool) past run) ∙ is)
 
   module _ (h0 h1 : Hoard T) where
     -- the lists of a hoard are as they were
-    pub shelf_same : (now now' : List (Option ℕ)) (behind : List (List T)) (here : List T) (spare places : ℕ) → map (run_list h1.pool) h1.past ≡ behind → run_list h1.pool h1.hand ≡ here → h1.pool.spare ≡ spare → h1.past_places ≡ places → shelf_of h1 now' ≡ record { current = map (run_list h1.pool) now'; past = behind; hand = here; spare = spare; past_places = places }
-    shelf_same now now' behind here spare places b h s p =
+    pub shelf_same : (now now' : List (Option ℕ)) (after : List (List T)) (here : List T) (spare places : ℕ) → map (run_list h1.pool) h1.past ≡ after → run_list h1.pool h1.hand ≡ here → h1.pool.spare ≡ spare → h1.past_places ≡ places → shelf_of h1 now' ≡ record { current = map (run_list h1.pool) now'; past = after; hand = here; spare = spare; past_places = places }
+    shelf_same now now' after here spare places b h s p =
         ap₂ (λ (x : List (List T)) (y : List T). record { current = map (run_list h1.pool) now'; past = x; hand = y; spare = h1.pool.spare; past_places = h1.past_places }) b h
-        ∙ ap₂ (λ x y. record { current = map (run_list h1.pool) now'; past = behind; hand = here; spare = x; past_places = y }) s p
+        ∙ ap₂ (λ x y. record { current = map (run_list h1.pool) now'; past = after; hand = here; spare = x; past_places = y }) s p
 
     -- the row that was set, and the others
     pub comes_to : (now now' : List (Option ℕ)) (k : ℕ) (list : List T) → run_list h1.pool (run_at now' k) ≡ list → ((j : ℕ) → j ≢ k → run_at now' j ≡ run_at now j) → ((j : ℕ) → run_list h1.pool (run_at now j) ≡ run_list h0.pool (run_at now j)) → ComesTo k list (shelf_of h0 now).current (shelf_of h1 now').current
@@ -67,7 +67,7 @@ module _ {T : Type 0} where
           subst (λ x. AreOwned h1.pool now h1.past x None) (sym hand) (AreOwned-freed h0.pool h1.pool now h1.past h0.hand run free.gone free.others first),
           λ before list last. (
               let lists = last_shown h0.pool h1.past run before list (ap (map (run_list h0.pool)) (sym e) ∙ last) in
-              shelf_same now now before (run_list h0.pool h0.hand) h0.pool.spare h0.past_places (shows.behind ∙ lists.0) (ap (run_list h1.pool) hand ∙ shows.here) spare places
+              shelf_same now now before (run_list h0.pool h0.hand) h0.pool.spare h0.past_places (shows.after ∙ lists.0) (ap (run_list h1.pool) hand ∙ shows.here) spare places
               ∙ ap (λ (x : List (List T)). record { current = x; past = before; hand = run_list h0.pool h0.hand; spare = h0.pool.spare; past_places = h0.past_places }) (all_rows now shows.rows)
               ),
         )
@@ -80,7 +80,7 @@ module _ {T : Type 0} where
           subst (λ x. AreOwned h1.pool now h1.past x None) (sym hand) (AreOwned-freed h0.pool h1.pool now h1.past run h0.hand free.gone free.others first),
           λ before list last. (
               let lists = last_shown h0.pool h1.past run before list (ap (map (run_list h0.pool)) (sym e) ∙ last) in
-              shelf_same now now before list h0.pool.spare h0.past_places (shows.behind ∙ lists.0) (ap (run_list h1.pool) hand ∙ shows.here ∙ lists.1) spare places
+              shelf_same now now before list h0.pool.spare h0.past_places (shows.after ∙ lists.0) (ap (run_list h1.pool) hand ∙ shows.here ∙ lists.1) spare places
               ∙ ap (λ (x : List (List T)). record { current = x; past = before; hand = list; spare = h0.pool.spare; past_places = h0.past_places }) (all_rows now shows.rows)
               ),
         )
@@ -98,7 +98,7 @@ module _ {T : Type 0} where
         let after = Shows-freed pool h1.pool now h0.past run h0.hand free.others second in (
           subst (λ x. AreOwned h1.pool now x h1.hand None) (sym past) (subst (λ x. AreOwned h1.pool now h0.past x None) (sym hand) (AreOwned-freed pool h1.pool now h0.past run h0.hand free.gone free.others second)),
           (
-            shelf_same now now (map (run_list h0.pool) h0.past) [] h1.pool.spare h0.past_places (ap (map (run_list h1.pool)) past ∙ after.behind ∙ same.behind) (ap (run_list h1.pool) hand ∙ after.here ∙ shows_placed pool run [] put.placed) refl places
+            shelf_same now now (map (run_list h0.pool) h0.past) [] h1.pool.spare h0.past_places (ap (map (run_list h1.pool)) past ∙ after.after ∙ same.after) (ap (run_list h1.pool) hand ∙ after.here ∙ shows_placed pool run [] put.placed) refl places
                 ∙ ap (λ (x : List (List T)). record { current = x; past = map (run_list h0.pool) h0.past; hand = []; spare = h1.pool.spare; past_places = h0.past_places }) (all_rows now (λ k. after.rows k ∙ same.rows k)),
             spare,
           ),
@@ -120,7 +120,7 @@ module _ {T : Type 0} where
                   here = row_is h1.pool now' k ∙ shows.rows k ∙ ap (run_list h0.pool) is ∙ there_shown there run list lists.1;
                   others = λ j ne. row_is h1.pool now' j ∙ shows.rows j ∙ ap (run_list h0.pool) (others_swapped there now now' run k j changed ne) ∙ sym (row_is h0.pool now j);
                 },
-                shelf_same now now' old (run_list h0.pool h0.hand) h0.pool.spare h0.past_places (shows.behind ∙ lists.0) (ap (run_list h1.pool) hand ∙ shows.here) spare places,
+                shelf_same now now' old (run_list h0.pool h0.hand) h0.pool.spare h0.past_places (shows.after ∙ lists.0) (ap (run_list h1.pool) hand ∙ shows.here) spare places,
               )
               ),
         )
@@ -143,7 +143,7 @@ module _ {T : Type 0} where
             comes = comes_to now now' k list (ap (run_list h1.pool) is ∙ shows_placed h1.pool run list put.placed) (λ j ne. others_swapped (Some x) now now' run k j changed ne) same.rows;
             swapped =
                 shelf_same now now' (map (run_list h0.pool) h0.past ++ row_at (map (run_list h0.pool) now) k ∷ []) (run_list h0.pool h0.hand) h1.pool.spare h1.past_places
-                (ap (map (run_list h1.pool)) e ∙ map_push (run_list h1.pool) h0.past before ∙ ap₂ (λ (xs : List (List T)) (y : List T). xs ++ y ∷ []) same.behind stood) (ap (run_list h1.pool) hand ∙ same.here) refl refl;
+                (ap (map (run_list h1.pool)) e ∙ map_push (run_list h1.pool) h0.past before ∙ ap₂ (λ (xs : List (List T)) (y : List T). xs ++ y ∷ []) same.after stood) (ap (run_list h1.pool) hand ∙ same.here) refl refl;
             spare = spare;
             places = places;
           },
@@ -158,7 +158,7 @@ module _ {T : Type 0} where
           subst (λ y. AreOwned h1.pool now' y h1.hand None) (sym e) (subst (λ y. AreOwned h1.pool now' h0.past y None) (sym hand) second),
           record {
             comes = comes_to now now' k list (ap (run_list h1.pool) is ∙ shows_placed h1.pool run list put.placed) rest same.rows;
-            rest = shelf_same now now' (map (run_list h0.pool) h0.past) (run_list h0.pool h0.hand) h1.pool.spare h0.past_places (ap (map (run_list h1.pool)) e ∙ same.behind) (ap (run_list h1.pool) hand ∙ same.here) refl places;
+            rest = shelf_same now now' (map (run_list h0.pool) h0.past) (run_list h0.pool h0.hand) h1.pool.spare h0.past_places (ap (map (run_list h1.pool)) e ∙ same.after) (ap (run_list h1.pool) hand ∙ same.here) refl places;
             spare = spare;
           },
         )
@@ -178,7 +178,7 @@ module _ {T : Type 0} where
               here = row_is h1.pool now' k ∙ ap (run_list h1.pool) (ap (λ n. run_at n k) changed ∙ get_cleared now k None);
               others = λ j ne. row_is h1.pool now' j ∙ shows.rows j ∙ ap (run_list h0.pool) (ap (λ n. run_at n j) changed ∙ get_set_other now k j None None ne) ∙ sym (row_is h0.pool now j);
             };
-            cleared = shelf_same now now' (map (run_list h0.pool) h0.past) (run_list h0.pool h0.hand) h0.pool.spare h0.past_places (ap (map (run_list h1.pool)) e ∙ shows.behind) (ap (run_list h1.pool) hand ∙ shows.here) spare places;
+            cleared = shelf_same now now' (map (run_list h0.pool) h0.past) (run_list h0.pool h0.hand) h0.pool.spare h0.past_places (ap (map (run_list h1.pool)) e ∙ shows.after) (ap (run_list h1.pool) hand ∙ shows.here) spare places;
           },
         )
 
@@ -205,7 +205,7 @@ module _ {T : Type 0} where
   pub record Stays (h0 h1 : Hoard T) (now : List (Option ℕ)) : Type 0 where
     pub owned : IsOwner h1 now
     pub current : map (run_list h1.pool) now ≡ map (run_list h0.pool) now
-    pub behind : map (run_list h1.pool) h1.past ≡ map (run_list h0.pool) h0.past
+    pub after : map (run_list h1.pool) h1.past ≡ map (run_list h0.pool) h0.past
     pub here : run_list h1.pool h1.hand ≡ run_list h0.pool h0.hand
 
   pub reserve_done : (h0 h1 : Hoard T) (now : List (Option ℕ)) → h1 ≡ record h0 { pool = h1.pool; past_places = h1.past_places } → h1.pool ≡ record h0.pool { spare = h1.pool.spare } → IsOwner h0 now → Stays h0 h1 now
@@ -217,7 +217,7 @@ module _ {T : Type 0} where
       record {
         owned = subst (λ x. AreOwned h1.pool now x h1.hand None) (sym past) (subst (λ x. AreOwned h1.pool now h0.past x None) (sym hand) (AreOwned-slots h0.pool h1.pool now h0.past h0.hand slots owned));
         current = all_rows h0 h1 now shows.rows;
-        behind = ap (map (run_list h1.pool)) past ∙ shows.behind;
+        after = ap (map (run_list h1.pool)) past ∙ shows.after;
         here = ap (run_list h1.pool) hand ∙ shows.here;
       }
 

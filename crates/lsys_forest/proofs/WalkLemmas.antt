@@ -33,15 +33,15 @@ place_is k [] a (suc i) apart e = absurd (apart.0 (get_In a i k e))
 place_is k (x ∷ b) a zero apart e = absurd (apart.0 (subst (λ j. In j (b ++ k ∷ a)) (sym (same_Some x k e)) (In_right k b (k ∷ a) (inl refl))))
 place_is k (x ∷ b) a (suc i) apart e = ap suc (place_is k b a i apart.1 e)
 
-behind : (b : List ℕ) (k : ℕ) (a : List ℕ) → slice_get (b ++ k ∷ a) (suc (length b)) ≡ first_in a
-behind [] k [] = refl
-behind [] k (x ∷ a) = refl
-behind (x ∷ b) k a = behind b k a
+right_after : (b : List ℕ) (k : ℕ) (a : List ℕ) → slice_get (b ++ k ∷ a) (suc (length b)) ≡ first_in a
+right_after [] k [] = refl
+right_after [] k (x ∷ a) = refl
+right_after (x ∷ b) k a = right_after b k a
 
 pub next_right : (xs : List ℕ) (k i : ℕ) → AreApart xs → slice_get xs i ≡ Some k → (b a : List ℕ) → xs ≡ b ++ k ∷ a → slice_get xs (i + 1) ≡ first_in a
 next_right xs k i apart here b a whole =
     let at = place_is k b a i (subst AreApart whole apart) (subst (λ (l : List ℕ). slice_get l i ≡ Some k) whole here) in
-    ap (λ (l : List ℕ). slice_get l (i + 1)) whole ∙ (let next : i + 1 ≡ suc (length b) = omega (arith, at) in ap (slice_get (b ++ k ∷ a)) next) ∙ behind b k a
+    ap (λ (l : List ℕ). slice_get l (i + 1)) whole ∙ (let next : i + 1 ≡ suc (length b) = omega (arith, at) in ap (slice_get (b ++ k ∷ a)) next) ∙ right_after b k a
 
 pub mirrored_push : (xs : List ℕ) (x : ℕ) → mirrored (xs ++ x ∷ []) ≡ x ∷ mirrored xs
 mirrored_push [] x = refl
@@ -167,8 +167,8 @@ module _ {A : Type 0} where
     pub rest : Left (flat (kids_that_way way m) ahead)
 
   -- what stands after a node of the level below
-  abbrev pub Behind : Way → Nodes A → ℕ → ℕ → ℕ → List ℕ → Type 0
-  Behind way m root t node rest = (b a : List ℕ) → oriented way (level_nodes m root (suc t)) ≡ b ++ node ∷ a → a ≡ rest
+  abbrev pub After : Way → Nodes A → ℕ → ℕ → ℕ → List ℕ → Type 0
+  After way m root t node rest = (b a : List ℕ) → oriented way (level_nodes m root (suc t)) ≡ b ++ node ∷ a → a ≡ rest
 
   -- the children of the nodes from this one on
   abbrev pub Below : Way → Nodes A → ℕ → ℕ → Option ℕ → List ℕ → Type 0
@@ -182,7 +182,7 @@ module _ {A : Type 0} where
     pub left : List ℕ
     pub right : List ℕ
     pub kids : kids_that_way way m p ≡ left ++ node ∷ right
-    pub behind : (b a : List ℕ) → oriented way (level_nodes m root (suc t)) ≡ b ++ node ∷ a → a ≡ right ++ flat (kids_that_way way m) after
+    pub past_it : (b a : List ℕ) → oriented way (level_nodes m root (suc t)) ≡ b ++ node ∷ a → a ≡ right ++ flat (kids_that_way way m) after
 
   pub amid : (way : Way) (root : ℕ) (changes : List (Change A)) (m : Nodes A) → IsRooted root changes m → (t k : ℕ) (n : Node A) → In k (level_nodes m root (suc t)) → m k ≡ Some n → IsAmid way m root t n.parent k
   amid way root changes m sound t k n h is =
@@ -199,7 +199,7 @@ module _ {A : Type 0} where
         left = r.0;
         right = r.1;
         kids = r.2;
-        behind = λ b a whole. (
+        past_it = λ b a whole. (
             let apart = subst AreApart e (oriented_apart way (level_nodes m root (suc t)) (level_apart root changes m sound (suc t))) in
             sym (same_sides k (flat K s.0 ++ r.0) (r.1 ++ flat K s.1) b a apart (sym e ∙ whole)).1
             );
@@ -207,15 +207,15 @@ module _ {A : Type 0} where
 
   -- the next child of the same parent
   pub next_same : (way : Way) (m : Nodes A) (root t p node : ℕ) → (am : IsAmid way m root t p node) → (next : ℕ) → Some next ≡ first_in am.right → (b a : List ℕ) → oriented way (level_nodes m root (suc t)) ≡ b ++ node ∷ a → Some next ≡ first_in a
-  next_same way m root t p node am next e b a whole = sym (ap first_in (am.behind b a whole) ∙ first_append am.right (flat (kids_that_way way m) am.after) next (sym e))
+  next_same way m root t p node am next e b a whole = sym (ap first_in (am.past_it b a whole) ∙ first_append am.right (flat (kids_that_way way m) am.after) next (sym e))
 
-  pub behind_start : (way : Way) (m : Nodes A) (root t p node : ℕ) (at : Option ℕ) → (am : IsAmid way m root t p node) → first_in am.right ≡ None → at ≡ first_in am.after → IsAlong (Behind way m root t node) way m root t at
-  behind_start way m root t p node at am none is = record {
+  pub after_start : (way : Way) (m : Nodes A) (root t p node : ℕ) (at : Option ℕ) → (am : IsAmid way m root t p node) → first_in am.right ≡ None → at ≡ first_in am.after → IsAlong (After way m root t node) way m root t at
+  after_start way m root t p node at am none is = record {
     passed = am.before ++ p ∷ [];
     ahead = am.after;
     whole = am.level ∙ sym (append_assoc am.before (p ∷ []) am.after);
     at_is = is;
-    rest = λ b a whole. am.behind b a whole ∙ ap (λ (l : List ℕ). l ++ flat (kids_that_way way m) am.after) (no_first am.right none);
+    rest = λ b a whole. am.past_it b a whole ∙ ap (λ (l : List ℕ). l ++ flat (kids_that_way way m) am.after) (no_first am.right none);
   }
 
   pub below_start : (way : Way) (root : ℕ) (changes : List (Change A)) (m : Nodes A) → IsRooted root changes m → (t : ℕ) (start : Option ℕ) → IfSome start (λ k. In k (level_nodes m root t)) → IsAlong (Below way m root t start) way m root t start

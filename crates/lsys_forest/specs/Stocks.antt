@@ -41,9 +41,9 @@ abbrev pub first_of : {T : Type 0} → List (List T) → List T
 first_of [] = []
 first_of (x ∷ xs) = x
 
-abbrev pub behind_first : {T : Type 0} → List (List T) → List (List T)
-behind_first [] = []
-behind_first (x ∷ xs) = xs
+abbrev pub after_first : {T : Type 0} → List (List T) → List (List T)
+after_first [] = []
+after_first (x ∷ xs) = xs
 
 -- a list where something is
 abbrev pub where_some : {X T : Type 0} → Option X → List T → List T
@@ -126,11 +126,11 @@ module _ {A : Type 0} where
 
   -- the lists that are left after a note
   abbrev pub params_left : Was A → List (List ℤ) → List (List ℤ)
-  params_left (was.Kind x) params = behind_first params
+  params_left (was.Kind x) params = after_first params
   params_left w params = params
 
   abbrev pub kids_left : Was A → List (List ℕ) → List (List ℕ)
-  kids_left was.Kids kids = behind_first kids
+  kids_left was.Kids kids = after_first kids
   kids_left w kids = kids
 
   -- the changes that the notes tell, which take the lists in turn

@@ -2,7 +2,7 @@
 ghost use Rattle.std.specs.Prelude.{◌≡◌, ◌+◌, ◌<◌, ◌≤◌, ◌++◌, ◌∷◌, [], ℕ, length, List, Some, IfSome, IfNone, Option, OnOk};
 ghost use Rattle.lsys_region.specs.Pool.{list_of, IsLiveRun};
 ghost use Rattle.lsys_region.specs.Rooms.{list_room};
-ghost use Rattle.lsys_forest.specs.Shelves.{run_list, IsOwner, IsListPlaced, IsFreed, OnShelf, KeepsPastAndHand, PutsBehindPast};
+ghost use Rattle.lsys_forest.specs.Shelves.{run_list, IsOwner, IsListPlaced, IsFreed, OnShelf, KeepsPastAndHand, PutsAfterPast};
 ghost use Rattle.lsys_forest.specs.Stocks.{DropsLast, TakesLastUp, PutsDown};
 
 use lsys_region::{Region, Run};
@@ -111,7 +111,7 @@ impl<T: Copy> Lists<T> {
     /// Puts a run after the past ones. It takes no memory.
     pub(crate) fn push(&mut self, run: Run)
         requires { length self.old.past < self.old.past_places }
-        ensures pushed { PutsBehindPast run self.old self.new }
+        ensures pushed { PutsAfterPast run self.old self.new }
         ensures places { self.old.past_places ≤ self.new.past_places }
     {
         match self.past.push(run) {

@@ -24,10 +24,10 @@ use Rattle.lsys_front.proofs.LeftLemmas.{nodes_are, next_is, mates_are, opener_h
 
 -- 1. rows
 
-last_behind : (xs : List ℕ) (y : ℕ) (ys : List ℕ) → last_in (xs ++ y ∷ ys) ≡ last_in (y ∷ ys)
-last_behind [] y ys = refl
-last_behind (x ∷ []) y ys = refl
-last_behind (x ∷ z ∷ xs) y ys = last_behind (z ∷ xs) y ys
+last_after : (xs : List ℕ) (y : ℕ) (ys : List ℕ) → last_in (xs ++ y ∷ ys) ≡ last_in (y ∷ ys)
+last_after [] y ys = refl
+last_after (x ∷ []) y ys = refl
+last_after (x ∷ z ∷ xs) y ys = last_after (z ∷ xs) y ys
 
 last_there : (xs : List ℕ) (k : ℕ) → last_in xs ≡ Some k → In k xs
 last_there [] k e = cc
@@ -37,7 +37,7 @@ last_there (x ∷ y ∷ xs) k e = inr (last_there (y ∷ xs) k e)
 -- the last of two rows is in the second, or it is the last of the first
 last_either : (xs ys : List ℕ) (k : ℕ) → last_in (xs ++ ys) ≡ Some k → In k ys ⊎ (last_in xs ≡ Some k)
 last_either xs [] k e = inr (ap last_in (sym (append-nil xs)) ∙ e)
-last_either xs (y ∷ ys) k e = inl (last_there (y ∷ ys) k (sym (last_behind xs y ys) ∙ e))
+last_either xs (y ∷ ys) k e = inl (last_there (y ∷ ys) k (sym (last_after xs y ys) ∙ e))
 
 first_either : (xs ys : List ℕ) (k : ℕ) → first_in (xs ++ ys) ≡ Some k → In k xs ⊎ (first_in ys ≡ Some k)
 first_either [] ys k e = inr e
@@ -134,7 +134,7 @@ module _ {A : Type 0} (o : Nodes A) (f : Grove A) (t : ℕ) (touched turned look
       from : (k : ℕ) (left right : List ℕ) → level_with f q ≡ left ++ q ∷ right → first_in (kids_below (now_of f) (q ∷ right)) ≡ Some k → In k looked
       from k left right e first = elim (first_either (kids_in (now_of f q)) (kids_below (now_of f) right) k first) [
         | inl i ↦ a.children k i
-        | inr e' ↦ a.behind k left right apart e e'
+        | inr e' ↦ a.after k left right apart e e'
       ]
 
   both : (q : ℕ) → In q (turned ++ touched) → In q turned ⊎ In q touched
@@ -259,8 +259,8 @@ module _ {A : Type 0} (o : Nodes A) (f : Grove A) (t : ℕ) (touched turned look
       let a = mate_is q r m in
       ((l.mates r h).mates q k (told_mate r q h (closer_there (kind_in n) is q r a) (λ p here. close_mate n is q r p l.are.level a here)) i)
 
-  mates_behind_looked : (q r k : ℕ) → AreMatesOn new q r → In q touched → In k (kids_at n r) → In k looked
-  mates_behind_looked q r k m h i =
+  mates_after_looked : (q r k : ℕ) → AreMatesOn new q r → In q touched → In k (kids_at n r) → In k looked
+  mates_after_looked q r k m h i =
       let a = mate_is q r m in
       ((l.mates q h).mates r k (told_mate q r h (opener_there (kind_in n) is q r a) (λ p here. open_mate n is q r p l.are.level a here)) i)
 
@@ -282,7 +282,7 @@ module _ {A : Type 0} (o : Nodes A) (f : Grove A) (t : ℕ) (touched turned look
     children = λ q k h i j. kids_looked q k h j;
     branches = branch_looked;
     mates = mates_looked;
-    mates_behind = mates_behind_looked;
+    mates_after = mates_after_looked;
   }
 
   -- 7. seats

@@ -14,8 +14,8 @@ use Rattle.lsys_children.proofs.Above.{upper_levels}
 use Rattle.lsys_front.specs.Repairs.{Repair, SteppingSpots, now, rest, root, are}
 use Rattle.lsys_front.specs.Found.{LevelChanges}
 use Rattle.lsys_front.specs.Ends.{AreEnded, answered_in, rows_from}
-use Rattle.lsys_front.specs.LastLevels.{IsLevelEnded, IsBehindAll, IsLastLevel, all_below, HadAnswerBehind, HasAllBehind}
-use Rattle.lsys_front.proofs.Lasts.{ended_upper, ended_kins, ended_stay, ended_nodes, ended_spots, ended_behind, ended_answers, ended_small, rows_below, answers_once, below_lives, not_reached, gone_kids, HadOne, had_one, had_it, bare_behind, bare_answers}
+use Rattle.lsys_front.specs.LastLevels.{IsLevelEnded, IsAfterAll, IsLastLevel, all_below, HadAnswerAfter, HasAllAfter}
+use Rattle.lsys_front.proofs.Lasts.{ended_upper, ended_kins, ended_stay, ended_nodes, ended_spots, ended_after, ended_answers, ended_small, rows_below, answers_once, below_lives, not_reached, gone_kids, HadOne, had_one, had_it, bare_after, bare_answers}
 
 sound_now : (r : Repair) → SteppingSpots r → IsRooted (root r) (changes_in r.forest) (now r)
 sound_now r s = AreSound-now (root r) (changes_in r.forest) (now r) s.sound
@@ -30,7 +30,7 @@ is_ended r m s e =
     let cs = changes_in r.forest in
     let sound = sound_now r s in
     record {
-      none_below = ended_behind (root r) cs (now r) m sound r.level e;
+      none_below = ended_after (root r) cs (now r) m sound r.level e;
       no_answers = ended_answers (root r) cs (now r) m sound r.level e;
       answers = λ k out. ap (λ x. option_and_then answer_of x) (e.others k out);
       nodes = ended_nodes (root r) cs (now r) m sound r.level e;
@@ -43,11 +43,11 @@ is_ended r m s e =
       small = ended_small (root r) cs (now r) m sound r.level e;
     }
 
-pub is_bare : (r : Repair) → SteppingSpots r → IsBehindAll r → IsLevelEnded r (now r)
+pub is_bare : (r : Repair) → SteppingSpots r → IsAfterAll r → IsLevelEnded r (now r)
 is_bare r s b =
     let cs = changes_in r.forest in
     record {
-      none_below = bare_behind (root r) cs (rest r) (now r) (sound_rest r s) (sound_now r s) s.stay r.level b.deeper r.old.depth b.depth b.ends;
+      none_below = bare_after (root r) cs (rest r) (now r) (sound_rest r s) (sound_now r s) s.stay r.level b.deeper r.old.depth b.depth b.ends;
       no_answers = λ k i. elim (b.same k i) [
         | inl none ↦ none
         | inr same ↦ same ∙ bare_answers (root r) cs (rest r) (now r) (sound_rest r s) (sound_now r s) s.stay r.level b.deeper r.old.depth b.depth b.ends b.last k i
@@ -63,8 +63,8 @@ is_bare r s b =
 
 -- 2. what was after it
 
-pub has_behind : (r : Repair) (c : LevelChanges) (m : Nodes Kept) → IsLastLevel r c → AreEnded (now r) m (are r) → HasAllBehind r c m
-has_behind r c m l e = record {
+pub has_after : (r : Repair) (c : LevelChanges) (m : Nodes Kept) → IsLastLevel r c → AreEnded (now r) m (are r) → HasAllAfter r c m
+has_after r c m l e = record {
   rows = rows_below (root r) cs (rest r) (now r) quiet sound l.spots.stay r.level l.deeper c.gone l.differs.gone l.gone_once m e;
   lives = below_lives (root r) cs (rest r) (now r) quiet sound l.spots.stay r.level l.deeper c.gone l.differs.gone l.gone_once m e;
   unreached = not_reached (root r) cs (rest r) (now r) quiet sound l.spots.stay r.level l.deeper c.gone l.differs.gone l.gone_once m e;
@@ -82,21 +82,21 @@ has_behind r c m l e = record {
     sound : IsRooted (root r) cs (now r)
     sound = sound_now r l.spots
 
-    had : (k : ℕ) → HadOne (rest r) (root r) r.level (r.old.depth - r.level) k → HadAnswerBehind r k
+    had : (k : ℕ) → HadOne (rest r) (root r) r.level (r.old.depth - r.level) k → HadAnswerAfter r k
     had k x = record {
       level = x.level;
-      behind = x.behind;
-      within = let b = x.behind in let w = x.within in omega (arith, b, w);
+      after = x.after;
+      within = let b = x.after in let w = x.within in omega (arith, b, w);
       there = x.there;
       answer = x.answer;
       kept = x.kept;
     }
 
-    has : (k : ℕ) → HadAnswerBehind r k → In k (answered_in m (rows_from m (r.old.depth - r.level) (all_below r c)))
+    has : (k : ℕ) → HadAnswerAfter r k → In k (answered_in m (rows_from m (r.old.depth - r.level) (all_below r c)))
     has k x = had_it (root r) cs (rest r) (now r) quiet sound l.spots.stay r.level l.deeper c.gone l.differs.gone l.gone_once m e (r.old.depth - r.level) k (record {
       level = x.level;
-      behind = x.behind;
-      within = let b = x.behind in let w = x.within in omega (arith, b, w);
+      after = x.after;
+      within = let b = x.after in let w = x.within in omega (arith, b, w);
       there = x.there;
       answer = x.answer;
       kept = x.kept;

@@ -49,8 +49,8 @@ module _ {A : Type 0} where
   no_answer None = refl
   no_answer (Some n) = refl
 
-  pub none_behind : (m : Nodes A) (root u : ℕ) → ((k : ℕ) → In k (level_nodes m root u) → kids_in (m k) ≡ []) → level_nodes m root (u + 1) ≡ []
-  none_behind m root u h = ap (level_nodes m root) (next_is u) ∙ flat_none (λ k. kids_in (m k)) (level_nodes m root u) h
+  pub none_after : (m : Nodes A) (root u : ℕ) → ((k : ℕ) → In k (level_nodes m root u) → kids_in (m k) ≡ []) → level_nodes m root (u + 1) ≡ []
+  none_after m root u h = ap (level_nodes m root) (next_is u) ∙ flat_none (λ k. kids_in (m k)) (level_nodes m root u) h
 
   later_none : (m : Nodes A) (root d t : ℕ) → level_nodes m root (d + 1) ≡ [] → level_nodes m root (suc (d + t)) ≡ []
   later_none m root d zero e = let n : suc (d + 0) ≡ d + 1 = omega arith in ap (level_nodes m root) n ∙ e
@@ -103,8 +103,8 @@ module _ {A : Type 0} where
     pub ended_spots : (v : ℕ) → v ≤ u → level_spots new root v ≡ level_spots old root v
     ended_spots v l = upper_spots root changes old new sound u ended_upper v l
 
-    pub ended_behind : level_nodes new root (u + 1) ≡ []
-    ended_behind = none_behind new root u (λ k i. (
+    pub ended_after : level_nodes new root (u + 1) ≡ []
+    ended_after = none_after new root u (λ k i. (
         let j : In k (level_nodes old root u) = subst (In k) (ended_nodes u (omega arith)) i in
         ap (λ x. kids_in x) (e.here k j) ∙ no_kids (old k)
         ))
@@ -130,7 +130,7 @@ module _ {A : Type 0} where
   -- the node was on one of the levels after this one, so many of them, and kept an answer
   pub record HadOne (o : Nodes A) (root u n k : ℕ) : Type 0 where
     pub level : ℕ
-    pub behind : u < level
+    pub after : u < level
     pub within : level ≤ u + n
     pub there : In k (level_nodes o root level)
     pub answer : A
@@ -253,7 +253,7 @@ module _ {A : Type 0} where
         -- and no node of a level now
         not_on_level : (n k v : ℕ) → In k (rows_from new n below) → In k (level_nodes new root v) → ⊥
         not_on_level n k v i h = elim (cases_lt u v) [
-          | inl l ↦ subst (In k) (none_later new root u v l (ended_behind root changes m new sound u e)) h
+          | inl l ↦ subst (In k) (none_later new root u v l (ended_after root changes m new sound u e)) h
           | inr l ↦ (
               let p = is_deep n k i in
               let d : u + 2 ≤ p.0.depth = p.2 in
@@ -295,7 +295,7 @@ module _ {A : Type 0} where
             let a = answered new k f.1 in
             record {
               level = u + 1 + r.0;
-              behind = omega arith;
+              after = omega arith;
               within = let l = r.1 in omega (arith, l);
               there = at;
               answer = a.0;
@@ -305,10 +305,10 @@ module _ {A : Type 0} where
         pub had_it : (n k : ℕ) → HadOne o root u n k → In k (answered_in new (rows_from new n below))
         had_it n k h =
             let i : ℕ = h.level - (u + 1) in
-            let level : h.level ≡ u + 1 + i = omega (arith, h.behind) in
+            let level : h.level ≡ u + 1 + i = omega (arith, h.after) in
             let at : In k (row_below new i below) = (rows_below i k).1 (subst (λ t. In k (level_nodes o root t)) level h.there) in
-            in_filter (is_answered new) (rows_from new n below) k (row_rows new n below k i (omega (arith, h.within, h.behind)) at)
-            (is_answered_by new k h.answer (ap (option_and_then answer_of) (was_same k h.level h.behind h.there) ∙ h.kept))
+            in_filter (is_answered new) (rows_from new n below) k (row_rows new n below k i (omega (arith, h.within, h.after)) at)
+            (is_answered_by new k h.answer (ap (option_and_then answer_of) (was_same k h.level h.after h.there) ∙ h.kept))
 
     -- 3. nothing was after the level
 
@@ -322,8 +322,8 @@ module _ {A : Type 0} where
         no_members [] h = refl
         no_members (x ∷ xs) h = absurd (h x (inl refl))
 
-    pub bare_behind : (d : ℕ) → d ≤ u → level_nodes o root (d + 1) ≡ [] → level_nodes m root (u + 1) ≡ []
-    bare_behind d l e = none_behind m root u (bare_kids d l e)
+    pub bare_after : (d : ℕ) → d ≤ u → level_nodes o root (d + 1) ≡ [] → level_nodes m root (u + 1) ≡ []
+    bare_after d l e = none_after m root u (bare_kids d l e)
 
     pub bare_answers : (d : ℕ) → d ≤ u → level_nodes o root (d + 1) ≡ [] → ((k : ℕ) → In k (level_nodes o root d) → option_and_then answer_of (o k) ≡ None)
         → (k : ℕ) → In k (level_nodes m root u) → option_and_then answer_of (o k) ≡ None

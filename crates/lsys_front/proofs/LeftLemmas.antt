@@ -190,18 +190,18 @@ left_from kind own o [] ys l = (o, l)
 left_from kind own o (x ∷ xs) ys l = left_from kind own (reached o (kind x) l.1) xs ys l.2
 
 -- after a bracket that begins a branch, and has a child, nothing is being cut off
-left_behind : (kind : ℕ → BracketKind) (own : ℕ → List ℕ) (c : Bool) (q : ℕ) (after : List ℕ) (o : Option ℕ) (k : BracketKind) → k ≡ Opens → is_parent (own q) ≡ true
+left_after : (kind : ℕ → BracketKind) (own : ℕ → List ℕ) (c : Bool) (q : ℕ) (after : List ℕ) (o : Option ℕ) (k : BracketKind) → k ≡ Opens → is_parent (own q) ≡ true
     → IsLeft kind (stays o k) k (own q) → AreLeft kind own (reached o k c) after → AreLeft kind own None after
-left_behind kind own c q after o Neither e p w l = cc
-left_behind kind own c q after o Closes e p w l = cc
-left_behind kind own c q after None Opens e p w l = l
-left_behind kind own c q after (Some n) Opens e p w l = let f : true ≡ false = sym p ∙ ap is_parent w in cc
+left_after kind own c q after o Neither e p w l = cc
+left_after kind own c q after o Closes e p w l = cc
+left_after kind own c q after None Opens e p w l = l
+left_after kind own c q after (Some n) Opens e p w l = let f : true ≡ false = sym p ∙ ap is_parent w in cc
 
-behind : (kind : ℕ → BracketKind) (own : ℕ → List ℕ) (xs before : List ℕ) (q : ℕ) (after : List ℕ) → IsLeftLevel kind own xs → xs ≡ before ++ q ∷ after → kind q ≡ Opens
+right_after : (kind : ℕ → BracketKind) (own : ℕ → List ℕ) (xs before : List ℕ) (q : ℕ) (after : List ℕ) → IsLeftLevel kind own xs → xs ≡ before ++ q ∷ after → kind q ≡ Opens
     → is_parent (own q) ≡ true → closer kind 0 (parents own after) ≡ closer kind 0 after
-behind kind own xs before q after h whole opens p =
+right_after kind own xs before q after h whole opens p =
     let s = left_from kind own None before (q ∷ after) (subst (AreLeft kind own None) whole h.left) in
-    let l : AreLeft kind own None after = left_behind kind own s.1.1 q after s.0 (kind q) opens p s.1.0 s.1.2 in
+    let l : AreLeft kind own None after = left_after kind own s.1.1 q after s.0 (kind q) opens p s.1.0 s.1.2 in
     let z : 0 + 0 ≡ 0 = omega arith in
     same_closer kind own None after 0 l ∙ ap (λ n. closer kind n after) z
 
@@ -245,7 +245,7 @@ mates_are kind own xs h q r = (to, from)
     to : AreMatesOn (left_generation kind own xs) q r → AreMatesAmong kind xs q r × (is_parent (own q) ≡ true)
     to m =
         let t : IsThere own xs m.before q m.after = is_there own xs m.before q m.after m.whole in
-        let e : closer kind 0 t.after ≡ Some r = sym (behind kind own xs t.before q t.after h t.whole m.opens t.is) ∙ ap (closer kind 0) t.right_is ∙ m.closes in
+        let e : closer kind 0 t.after ≡ Some r = sym (right_after kind own xs t.before q t.after h t.whole m.opens t.is) ∙ ap (closer kind 0) t.right_is ∙ m.closes in
         (record { before = t.before; after = t.after; whole = t.whole; opens = m.opens; closes = e }, t.is)
 
     from : AreMatesAmong kind xs q r × (is_parent (own q) ≡ true) → AreMatesOn (left_generation kind own xs) q r
@@ -257,7 +257,7 @@ mates_are kind own xs h q r = (to, from)
           after = parents own m.after;
           whole = ap (parents own) m.whole ∙ parents_append own m.before (q ∷ m.after) ∙ ap (λ zs. parents own m.before ++ zs) here;
           opens = m.opens;
-          closes = behind kind own xs m.before q m.after h m.whole m.opens p.1 ∙ m.closes;
+          closes = right_after kind own xs m.before q m.after h m.whole m.opens p.1 ∙ m.closes;
         }
 
 -- 5. the generation
@@ -281,16 +281,16 @@ not_both k [] ys h i j = i
 not_both k (x ∷ xs) ys h (inl e) j = h.0 (in_back x xs ys (subst (λ k. In k ys) e j))
 not_both k (x ∷ xs) ys h (inr i) j = not_both k xs ys h.1 i j
 
-behind_apart : (xs ys : List ℕ) → AreApart (xs ++ ys) → AreApart ys
-behind_apart [] ys h = h
-behind_apart (x ∷ xs) ys h = behind_apart xs ys h.1
+after_apart : (xs ys : List ℕ) → AreApart (xs ++ ys) → AreApart ys
+after_apart [] ys h = h
+after_apart (x ∷ xs) ys h = after_apart xs ys h.1
 
 one_parent : (own : ℕ → List ℕ) (xs : List ℕ) → AreApart (flat own xs) → (p q k : ℕ) → In p xs → In q xs → In k (own p) → In k (own q) → p ≡ q
 one_parent own [] h p q k i j ip iq = absurd i
 one_parent own (x ∷ xs) h p q k (inl e) (inl f) ip iq = e ∙ sym f
 one_parent own (x ∷ xs) h p q k (inl e) (inr j) ip iq = absurd (not_both k (own x) (flat own xs) h (subst (λ p. In k (own p)) e ip) (in_flat own xs q k j iq))
 one_parent own (x ∷ xs) h p q k (inr i) (inl f) ip iq = absurd (not_both k (own x) (flat own xs) h (subst (λ q. In k (own q)) f iq) (in_flat own xs p k i ip))
-one_parent own (x ∷ xs) h p q k (inr i) (inr j) ip iq = one_parent own xs (behind_apart (own x) (flat own xs) h) p q k i j ip iq
+one_parent own (x ∷ xs) h p q k (inr i) (inr j) ip iq = one_parent own xs (after_apart (own x) (flat own xs) h) p q k i j ip iq
 
 pub is_generation : (kind : ℕ → BracketKind) (own : ℕ → List ℕ) (xs : List ℕ) → IsLeftLevel kind own xs → IsGeneration (left_generation kind own xs)
 is_generation kind own xs h = record {

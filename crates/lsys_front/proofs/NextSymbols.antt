@@ -35,8 +35,8 @@ no_sum [] = refl
 no_sum (k ∷ ks) = let rest = no_sum ks in omega (arith, sum_by-cons (λ (k : ℕ). 0) k ks, rest)
 
 -- the level after one, by the children of its nodes
-behind : (m : Nodes Kept) (top t : ℕ) → length (level_nodes m top (t + 1)) ≡ sum_by (kids_at m) (level_nodes m top t)
-behind m top t = let next : t + 1 ≡ suc t = omega arith in ap (λ u. length (level_nodes m top u)) next ∙ below_count m (level_nodes m top t)
+after : (m : Nodes Kept) (top t : ℕ) → length (level_nodes m top (t + 1)) ≡ sum_by (kids_at m) (level_nodes m top t)
+after m top t = let next : t + 1 ≡ suc t = omega arith in ap (λ u. length (level_nodes m top u)) next ∙ below_count m (level_nodes m top t)
 
 pub had_sum : (m : Nodes Kept) (ps : List Parent) → had_by_all m ps ≡ sum_by (kids_at m) (nodes_in ps)
 had_sum m [] = refl
@@ -92,7 +92,7 @@ module _ (r : Repair) (s : SteppingSpots r) (h : KeepsDeeper (rest r) (now r) (r
       (apart_append (are r) c.gone are_apart once (λ k i j. ((differs.gone k).0 j).1 i)) were_apart there
       (λ k i. elim (In_append (are r) c.gone k i) [ inl j ↦ new_none k j | inr j ↦ inl ((differs.gone k).0 j).0 ]) in
       let both = sum_by-append (kids_at (now r)) (are r) c.gone in
-      omega (arith, had, shared, both, no_sum (were r), no_sum (are r ++ c.gone), behind (now r) (root r) r.level, behind (rest r) (root r) r.level)
+      omega (arith, had, shared, both, no_sum (were r), no_sum (are r ++ c.gone), after (now r) (root r) r.level, after (rest r) (root r) r.level)
     where
       there : (k : ℕ) → In k (were r) → In k (are r ++ c.gone)
       there k i = elim (is_in k (are r)) [
@@ -113,7 +113,7 @@ by_parents r ps s once among closed told others =
     let sums = other_sums (kids_at (now r)) (λ k. wanted_count g (by k)) (are r) (nodes_in ps)
     (level_apart (root r) (changes_in r.forest) (now r) (sound_new r s) r.level) once among
     (λ k i. elim (others k i) [ inl j ↦ inl j | inr w ↦ inr (sym (kids_count g r.new.seed (now r) k (by k) w)) ]) in
-    omega (arith, sums, alone_count g (now r) by (are r) closed, had_sum (now r) ps, wanted_sum g (now r) by ps told, behind (now r) (root r) r.level)
+    omega (arith, sums, alone_count g (now r) by (are r) closed, had_sum (now r) ps, wanted_sum g (now r) by ps told, after (now r) (root r) r.level)
 
 pub by_walk : (r : Repair) (ps : List Parent) → ps ≡ cut_parents (now r) None (are r) → AreApart (are r)
     → count_wanted r.new.numbering (now r) (kept_successors (now r)) (are r) ≡ wanted_of_all r.new.numbering (now r) ps

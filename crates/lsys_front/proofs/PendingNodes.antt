@@ -55,12 +55,12 @@ placed_less k ks (j ∷ js) next p = (
   placed_less k ks js (λ i h. next i (inr h)) p.1,
 )
 
-record IsBehind (k : ℕ) (ks : List ℕ) (i : ℕ) : Type 0 where
+record IsAfter (k : ℕ) (ks : List ℕ) (i : ℕ) : Type 0 where
   pub within : In i ks
   pub next : index_in i (k ∷ ks) ≡ suc (index_in i ks)
 
-behind : (k : ℕ) (ks : List ℕ) (i : ℕ) → In i (k ∷ ks) → 0 < index_in i (k ∷ ks) → IsBehind k ks i
-behind k ks i h l = elim (index_cases i k ks) [
+after : (k : ℕ) (ks : List ℕ) (i : ℕ) → In i (k ∷ ks) → 0 < index_in i (k ∷ ks) → IsAfter k ks i
+after k ks i h l = elim (index_cases i k ks) [
   | inl e ↦ absurd (let z = e.1 in omega (arith, z, l))
   | inr e ↦ record { within = elim h [ inl same ↦ absurd (e.0 same) | inr m ↦ m ]; next = e.1 }
 ]
@@ -69,12 +69,12 @@ some_placed : (ks js : List ℕ) → ((k : ℕ) → In k js → In k ks) → Are
 some_placed ks [] h p = tt
 some_placed [] (j ∷ js) h p = h j (inl refl)
 some_placed (k ∷ ks) (j ∷ js) h p = elim (index_cases j k ks) [
-  | inl e ↦ (let back : (i : ℕ) → In i js → IsBehind k ks i = λ i m. behind k ks i (h i (inr m)) (let a = p.0 i m in let z = e.1 in omega (arith, a, z)) in
+  | inl e ↦ (let back : (i : ℕ) → In i js → IsAfter k ks i = λ i m. after k ks i (h i (inr m)) (let a = p.0 i m in let z = e.1 in omega (arith, a, z)) in
       inl (e.0, some_placed ks js (λ i m. (back i m).within) (placed_less k ks js (λ i m. (back i m).next) p.1)))
-  | inr e ↦ (let first : IsBehind k ks j = behind k ks j (h j (inl refl)) (let s = e.1 in omega (arith, s)) in
-      let back : (i : ℕ) → In i (j ∷ js) → IsBehind k ks i = λ i m. elim m [
-        | inl same ↦ subst (IsBehind k ks) (sym same) first
-        | inr n ↦ behind k ks i (h i (inr n)) (let a = p.0 i n in omega (arith, a))
+  | inr e ↦ (let first : IsAfter k ks j = after k ks j (h j (inl refl)) (let s = e.1 in omega (arith, s)) in
+      let back : (i : ℕ) → In i (j ∷ js) → IsAfter k ks i = λ i m. elim m [
+        | inl same ↦ subst (IsAfter k ks) (sym same) first
+        | inr n ↦ after k ks i (h i (inr n)) (let a = p.0 i n in omega (arith, a))
       ] in
       inr (some_placed ks (j ∷ js) (λ i m. (back i m).within) (placed_less k ks (j ∷ js) (λ i m. (back i m).next) p)))
 ]

@@ -5,7 +5,7 @@ use Rattle.std.proofs.lemmas.List.{take-map, drop-map, length-map, map-append}
 use Rattle.lsys_syntax.specs.Strings.{ModuleName}
 use Rattle.lsys_spec.specs.Bodies.{Body, Pattern, Patterns, Done, OneOf, BranchOf}
 use Rattle.lsys_spec.specs.Levels.{ModuleValue, LevelSymbol, Push, Pop, Module, lineage, Step, Passed, Around, OutOf, Reading, read, restored, way, Items, Nothing, One, Branch, Nest, at_root, in_branch, items_here, items_of, items_from, with_module, with_whole_branch, with_open_bracket}
-use Rattle.lsys_spec.specs.Walks.{Mark, deeper, Entry, Compared, Ignored, Out, Branched, Told, Found, before, followed, fits, behind, ahead, joined, or_passed, left_walk, right_walk}
+use Rattle.lsys_spec.specs.Walks.{Mark, deeper, Entry, Compared, Ignored, Out, Branched, Told, Found, before, followed, fits, followed_by, ahead, joined, or_passed, left_walk, right_walk}
 use Rattle.lsys_spec.specs.Choice.{Fault, TooFar, Outcome, No, Yes, Fails, Choice, Asking, Tried, none_tried, after_rule, right_after, next_contexts, fitting, outcome, decided, first_applying, Applying, found_with, all_applying, pick_among, choice}
 use Rattle.lsys_spec.proofs.Meetings.{met}
 
@@ -125,8 +125,8 @@ module _ (f : List ℕ → List ℕ) where
   left_as ignored d (q ∷ qs) (Passed (Module l m) ∷ w) =
       let s : LevelSymbol = Module l m in
       met_as (ignored m.name) (fits q s) d s (left_walk ignored d (q ∷ qs) w) (left_walk ignored d (q ∷ qs) (map step_as w))
-      (behind s (left_walk ignored d qs w)) (behind (symbol_as s) (left_walk ignored d qs (map step_as w)))
-      (left_as ignored d (q ∷ qs) w) (ap (behind (symbol_as s)) (left_as ignored d qs w))
+      (followed_by s (left_walk ignored d qs w)) (followed_by (symbol_as s) (left_walk ignored d qs (map step_as w)))
+      (left_as ignored d (q ∷ qs) w) (ap (followed_by (symbol_as s)) (left_as ignored d qs w))
 
   passed_as : (o : Found) (both both' passed passed' : Told Found) → both' ≡ told_as both → passed' ≡ told_as passed → or_passed o both' passed' ≡ told_as (or_passed o both passed)
   passed_as None both both' passed passed' h g = g

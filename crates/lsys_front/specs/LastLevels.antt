@@ -32,7 +32,7 @@ pub record IsLevelEnded (r : Repair) (m : Nodes Kept) : Type 0 where
 
 -- The old system has no level after this one. At the last rest nothing was below its last level, whose nodes kept no answers; and a
 -- node of this level keeps the answer that it kept then, or none.
-pub record IsBehindAll (r : Repair) : Type 0 where
+pub record IsAfterAll (r : Repair) : Type 0 where
   pub deeper : KeepsDeeper (rest r) (now r) (r.level + 1)
   pub depth : r.old.depth ≤ r.level
   pub ends : level_nodes (rest r) (root r) (r.old.depth + 1) ≡ []
@@ -55,9 +55,9 @@ abbrev pub all_below : Repair → LevelChanges → List ℕ
 all_below r c = kids_below (now r) (are r) ++ kids_below (now r) c.gone
 
 -- At the last rest the node was on a level after this one, at most the last of the old system, and kept an answer.
-pub record HadAnswerBehind (r : Repair) (k : ℕ) : Type 0 where
+pub record HadAnswerAfter (r : Repair) (k : ℕ) : Type 0 where
   pub level : ℕ
-  pub behind : r.level < level
+  pub after : r.level < level
   pub within : level ≤ r.old.depth
   pub there : In k (level_nodes (rest r) (root r) level)
   pub answer : Kept
@@ -66,13 +66,13 @@ pub record HadAnswerBehind (r : Repair) (k : ℕ) : Type 0 where
 -- By the nodes m, those children and the nodes below them, row by row, are the levels that were after this one at the last rest.
 -- None of them is reached from the root. Down to the last level of the old system, those that keep an answer are those that kept
 -- one then. The children of the nodes that are gone are as they were.
-pub record HasAllBehind (r : Repair) (c : LevelChanges) (m : Nodes Kept) : Type 0 where
+pub record HasAllAfter (r : Repair) (c : LevelChanges) (m : Nodes Kept) : Type 0 where
   pub rows : (n k : ℕ) → In k (row_below m n (all_below r c))
       ↔ In k (level_nodes (rest r) (root r) (r.level + 1 + n))
   pub lives : (k : ℕ) → In k (all_below r c) → IsSome (m k)
   pub unreached : (n k : ℕ) → In k (rows_from m n (all_below r c)) → Reached m (root r) k → ⊥
   pub answers : (k : ℕ)
       → In k (answered_in m (rows_from m (r.old.depth - r.level) (all_below r c)))
-      ↔ HadAnswerBehind r k
+      ↔ HadAnswerAfter r k
   pub answers_once : (n : ℕ) → AreApart (answered_in m (rows_from m n (all_below r c)))
   pub gone : kids_below m c.gone ≡ kids_below (now r) c.gone

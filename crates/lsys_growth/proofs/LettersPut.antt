@@ -54,18 +54,18 @@ mapped_insert [] (suc i) x = refl
 mapped_insert (l ∷ ls) zero x = refl
 mapped_insert (l ∷ ls) (suc i) x = ap (λ ms. module_name l ∷ ms) (mapped_insert ls i x)
 
-abbrev behind : ModuleName → List ℕ → Bool
-behind n l = comes_before (module_name_text n) (module_name_text (module_name l))
+abbrev after : ModuleName → List ℕ → Bool
+after n l = comes_before (module_name_text n) (module_name_text (module_name l))
 
-counted_before : (n : ModuleName) (ls : List (List ℕ)) → position_or_len (behind n) ls ≡ letter_place n (map module_name ls)
+counted_before : (n : ModuleName) (ls : List (List ℕ)) → position_or_len (after n) ls ≡ letter_place n (map module_name ls)
 counted_before n [] = refl
-counted_before n (l ∷ ls) = by (behind n l) (counted_before n ls)
+counted_before n (l ∷ ls) = by (after n l) (counted_before n ls)
   where
-    by : (b : Bool) → position_or_len (behind n) ls ≡ letter_place n (map module_name ls) → cond (not b) (1 + position_or_len (behind n) ls) 0 ≡ (if b then 0 else suc (letter_place n (map module_name ls)))
+    by : (b : Bool) → position_or_len (after n) ls ≡ letter_place n (map module_name ls) → cond (not b) (1 + position_or_len (after n) ls) 0 ≡ (if b then 0 else suc (letter_place n (map module_name ls)))
     by true h = refl
     by false h = omega (arith, h)
 
-pub place_found : (n : ModuleName) (ls : List (List ℕ)) → unwrap_or (position (behind n) ls) (length ls) ≡ letter_place n (map module_name ls)
+pub place_found : (n : ModuleName) (ls : List (List ℕ)) → unwrap_or (position (after n) ls) (length ls) ≡ letter_place n (map module_name ls)
 place_found n ls =
     ap (λ k. unwrap_or (cond (nat_lt k (length ls)) (Some k) None) (length ls)) (counted_before n ls) ∙ by (nat_lt (letter_place n (map module_name ls)) (length ls)) refl
   where

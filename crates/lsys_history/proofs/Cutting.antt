@@ -55,11 +55,11 @@ front_from limit N M n d [] more same = (desk_replies_from limit M n d more, ref
 front_from limit N M n d (line ∷ lines) more same =
     subst (λ lacks. IsFront (desk_followed (desk_reply_or_memory limit lacks d line) (λ next. desk_replies_from limit N (n + 1) next lines)) (desk_replies_from limit M n d (line ∷ lines ++ more)))
     (sym (same n (omega arith) (omega arith)))
-    (behind (desk_reply_or_memory limit (M n) d line) (λ next. front_from limit N M (n + 1) next lines more (λ i low high. same i (omega arith) (omega arith))))
+    (after (desk_reply_or_memory limit (M n) d line) (λ next. front_from limit N M (n + 1) next lines more (λ i low high. same i (omega arith) (omega arith))))
   where
-    behind : (r : DeskReply) → ((next : Desk) → IsFront (desk_replies_from limit N (n + 1) next lines) (desk_replies_from limit M (n + 1) next (lines ++ more)))
+    after : (r : DeskReply) → ((next : Desk) → IsFront (desk_replies_from limit N (n + 1) next lines) (desk_replies_from limit M (n + 1) next (lines ++ more)))
         → IsFront (desk_followed r (λ next. desk_replies_from limit N (n + 1) next lines)) (desk_followed r (λ next. desk_replies_from limit M (n + 1) next (lines ++ more)))
-    behind r later = unless_ended r.reply.ends r.reply _ _ (later r.next)
+    after r later = unless_ended r.reply.ends r.reply _ _ (later r.next)
 
 up_to_same : (k : ℕ) (M : ℕ → Bool) (i : ℕ) → i < 1 + k → up_to k M i ≡ M i
 up_to_same k M i h = with_flag (M i) (nat_lt k i) (grind (arith, nat_tests))

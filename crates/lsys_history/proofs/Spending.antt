@@ -19,7 +19,7 @@ use Rattle.lsys_spec.specs.Costs.{Cost, Visits, no_cost, one_refusal, ◌and◌,
 use Rattle.lsys_spec.proofs.CostSums.{and_assoc}
 use Rattle.lsys_laws.specs.Sessions.{HasLevels}
 use Rattle.lsys_laws.proofs.KeptLevels.{reply_levels}
-use Rattle.lsys_lattice.specs.Bounds.{bounds_text, turtle_behind}
+use Rattle.lsys_lattice.specs.Bounds.{bounds_text, turtle_or_refusal}
 use Rattle.lsys_lattice.specs.Bounds as pictures
 use Rattle.lsys_growth.specs.Growth.{Census, GrowthFault, growth_at}
 use Rattle.lsys_history.specs.Timelines as timelines
@@ -139,7 +139,7 @@ of_own limit d undo = of_step limit d (codes "undo") (timelines.after_undo d.ste
 of_own limit d redo = of_step limit d (codes "redo") (timelines.redone d.steps d.system) (timelines.nearest d.steps.future)
 of_own limit d (growth level) = of_growth d.system (growth_at d.system level)
 of_own limit d bounds = shown_ample limit d.system bounds_text (asked_of (pictures.bounds d.system) (levels_of limit d.system))
-of_own limit d (at n column) = of_turtle d.system column (asked_of (λ x. turtle_behind d.system x n) (levels_of limit d.system))
+of_own limit d (at n column) = of_turtle d.system column (asked_of (λ x. turtle_or_refusal d.system x n) (levels_of limit d.system))
 
 of_asked : (limit : ℕ) (d : Desk) (line : List ℕ) (asked : Option DeskLine) → IsReplyOf limit d.system (reply_by limit d asked (reply limit d.system line) (spelled_command line)).reply (leads_by d asked (edited_system d.system line))
 of_asked limit d line None = of_line limit d.system line
@@ -175,7 +175,7 @@ next_own limit d undo = next_step limit d (codes "undo") (timelines.after_undo d
 next_own limit d redo = next_step limit d (codes "redo") (timelines.redone d.steps d.system) (timelines.nearest d.steps.future)
 next_own limit d (growth level) = next_growth d.system (growth_at d.system level)
 next_own limit d bounds = next_shown d.system bounds_text (asked_of (pictures.bounds d.system) (levels_of limit d.system))
-next_own limit d (at n column) = next_turtle d.system column (asked_of (λ x. turtle_behind d.system x n) (levels_of limit d.system))
+next_own limit d (at n column) = next_turtle d.system column (asked_of (λ x. turtle_or_refusal d.system x n) (levels_of limit d.system))
 
 next_asked : (limit : ℕ) (d : Desk) (asked : Option DeskLine) (r : Reply) (spelled : Option Command) → (reply_by limit d asked r spelled).next.system ≡ (reply_by limit d asked r spelled).reply.next
 next_asked limit d None r spelled = refl

@@ -10,7 +10,7 @@ use Rattle.lsys_spec.specs.Replies.{reply, spelled_command}
 use Rattle.lsys_spec.specs.Output.{may_lack_memory, memory_or, reply_followed, replies_from}
 use Rattle.lsys_laws.specs.Sessions.{HasLevels}
 use Rattle.lsys_history.specs.Timelines.{Timeline, timeline, nearest, others, after_edit, after_undo, redone, most_kept}
-use Rattle.lsys_history.specs.Desks.{Desk, desk, answered, own_reply, session_reply, reply_by, stepped_to, steps_behind, spells_edit, undo, redo, desk_memory_or, desk_followed, desk_replies_from, HasNoDeskLine}
+use Rattle.lsys_history.specs.Desks.{Desk, desk, answered, own_reply, session_reply, reply_by, stepped_to, steps_by_reply, spells_edit, undo, redo, desk_memory_or, desk_followed, desk_replies_from, HasNoDeskLine}
 
 -- 1. lines that aren't the desk's
 
@@ -95,7 +95,7 @@ redo-next limit d before s l k e =
 
 -- 4. an undo after an edit
 
-edit_kept : (d : Desk) (r : Reply) (c : Command) → r.is_refusal ≡ false → spells_edit (Some c) ≡ true → steps_behind d r (Some c) ≡ after_edit d.steps d.system
+edit_kept : (d : Desk) (r : Reply) (c : Command) → r.is_refusal ≡ false → spells_edit (Some c) ≡ true → steps_by_reply d r (Some c) ≡ after_edit d.steps d.system
 edit_kept d r c a e =
     ap (λ b. elim (not b && spells_edit (Some c)) [ true ↦ after_edit d.steps d.system | false ↦ d.steps ]) a
     ∙ ap (λ b. elim b [ true ↦ after_edit d.steps d.system | false ↦ d.steps ]) e

@@ -48,8 +48,8 @@ DeskCostsAddUpLineByLine =
     and desk_costs_from visits limit M (n + 1) r.next lines
 
 -- after a line that ends the session nothing is added
-abbrev pub NoDeskCostsAreAddedBehindTheEnd : Type 0
-NoDeskCostsAreAddedBehindTheEnd =
+abbrev pub NoDeskCostsAreAddedAfterTheEnd : Type 0
+NoDeskCostsAreAddedAfterTheEnd =
     (visits : Visits) (limit : ℕ) (M : ℕ → Bool) (n : ℕ) (d : Desk) (line : List ℕ)
     (lines : List (List ℕ)) → (desk_reply_or_memory limit (M n) d line).reply.ends ≡ true
     → desk_costs_from visits limit M n d (line ∷ lines)

@@ -10,7 +10,7 @@ use Rattle.lsys_spec.specs.Pictures.{Pose, PictureRefusal, Turtle}
 use Rattle.lsys_spec.specs.Refusals.{Reply, said, refused, refused_memory, is_long, is_passed_over, with_number}
 use Rattle.lsys_spec.specs.Replies.{reply, edited, levels_of, is_query, or_text, picture_refusal_text, shown, spelled_command}
 use Rattle.lsys_spec.specs.Output.{may_lack_memory, whole_lines}
-use Rattle.lsys_lattice.specs.Bounds.{bounds_text, pose_text, turtle_behind}
+use Rattle.lsys_lattice.specs.Bounds.{bounds_text, pose_text, turtle_or_refusal}
 use Rattle.lsys_lattice.specs.Bounds as pictures
 use Rattle.lsys_growth.specs.Growth.{Census, GrowthFault, growth_at, growth_text, growth_fault_text}
 use Rattle.lsys_history.specs.Timelines as timelines
@@ -118,7 +118,7 @@ turtle_reply s column (Err why) = refused s why
 
 -- where the picture's turtle stands after the first n symbols of the image
 abbrev pub place_reply : System → ℕ → ℕ → Result (List (List LevelSymbol)) (List ℕ) → Reply
-place_reply s n column levels = turtle_reply s column (asked_of (λ x. turtle_behind s x n) levels)
+place_reply s n column levels = turtle_reply s column (asked_of (λ x. turtle_or_refusal s x n) levels)
 
 -- the desk's own reply: an undo steps to the nearest of the past, a redo to the nearest of those that were undone, growth
 -- counts the letters of a level, and the others ask of the picture of the last level
@@ -134,11 +134,11 @@ spells_edit None = false
 spells_edit (Some c) = not (is_query c)
 
 -- the steps after the session's reply to a line that spells this: an accepted edit leads away from the system
-abbrev pub steps_behind : Desk → Reply → Option Command → timelines.Timeline System
-steps_behind d r spelled = elim (not r.is_refusal && spells_edit spelled) [ true ↦ timelines.after_edit d.steps d.system | false ↦ d.steps ]
+abbrev pub steps_by_reply : Desk → Reply → Option Command → timelines.Timeline System
+steps_by_reply d r spelled = elim (not r.is_refusal && spells_edit spelled) [ true ↦ timelines.after_edit d.steps d.system | false ↦ d.steps ]
 
 abbrev pub session_reply : Desk → Reply → Option Command → DeskReply
-session_reply d r spelled = answered r (desk r.next (steps_behind d r spelled))
+session_reply d r spelled = answered r (desk r.next (steps_by_reply d r spelled))
 
 -- the reply to a line that asks this of the desk, where the session would reply so
 abbrev pub reply_by : ℕ → Desk → Option DeskLine → Reply → Option Command → DeskReply

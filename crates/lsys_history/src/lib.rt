@@ -6,7 +6,7 @@
 #![tactic(auto)]
 
 ghost use Rattle.lsys_history.specs.LedBack.{WithoutDeskLinesNothingChanges, CutScriptsKeepEarlierReplies, UndoIsAccepted, UndoLeadsBack, RedoGivesBackTheDesk, UndoneEditsAreAccepted, UndoneEditsLeadBack, DesksKeepTheirLevels};
-ghost use Rattle.lsys_history.specs.CostsOfDesks.{LinesThatLeadReplyAsEdits, LeadCostsAreTold, WithoutDeskLinesCostsAreTheSame, DeskCostsAddUpLineByLine, NoDeskCostsAreAddedBehindTheEnd};
+ghost use Rattle.lsys_history.specs.CostsOfDesks.{LinesThatLeadReplyAsEdits, LeadCostsAreTold, WithoutDeskLinesCostsAreTheSame, DeskCostsAddUpLineByLine, NoDeskCostsAreAddedAfterTheEnd};
 
 mod history;
 
@@ -48,7 +48,7 @@ pub fn law_of_desk_costs()
     ensures told { LeadCostsAreTold }
     ensures former { WithoutDeskLinesCostsAreTheSame }
     ensures line { DeskCostsAddUpLineByLine }
-    ensures end { NoDeskCostsAreAddedBehindTheEnd }
+    ensures end { NoDeskCostsAreAddedAfterTheEnd }
 {}
 
 /// A line leaves a desk whose system has its levels under the limit such a desk, also where it is refused as out of

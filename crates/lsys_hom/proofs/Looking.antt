@@ -11,6 +11,6 @@ module _ (part : Part) (over : symbols_of part ≡ []) where
   alone : (c : Coming) → with_part part c ≡ c
   alone c = ap (λ xs. record { symbols = xs ++ c.symbols; refusal = c.refusal }) over
 
-  pub kept_behind : (old new : Coming) (r : Option Glance) → IsKeptLook old new r → IsKeptLook (with_part part old) (with_part part new) r
-  kept_behind old new (Some look) h = (h.0, h.1, alone old ∙ h.2 ∙ ap (λ d. record { symbols = h.0 ∷ d.symbols; refusal = d.refusal }) (sym (alone new)))
-  kept_behind old new None h = ap (with_part part) h
+  pub kept_after : (old new : Coming) (r : Option Glance) → IsKeptLook old new r → IsKeptLook (with_part part old) (with_part part new) r
+  kept_after old new (Some look) h = (h.0, h.1, alone old ∙ h.2 ∙ ap (λ d. record { symbols = h.0 ∷ d.symbols; refusal = d.refusal }) (sym (alone new)))
+  kept_after old new None h = ap (with_part part) h

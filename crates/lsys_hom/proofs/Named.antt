@@ -4,7 +4,7 @@ use Rattle.lsys_syntax.specs.Strings as S
 use Rattle.lsys_spec.specs.Systems.{Homomorphism}
 use Rattle.lsys_spec.specs.Images.{ImageRefusal}
 use Rattle.lsys_level.specs.Spots.{Seen, Push, Pop, Module, Spotted, level_by, with_lineage}
-use Rattle.lsys_hom.specs.Coming.{Coming, coming_from, modules_behind, symbol_image, coming_with}
+use Rattle.lsys_hom.specs.Coming.{Coming, coming_from, modules_after, symbol_image, coming_with}
 use Rattle.std.proofs.Common.{ℤ}
 
 told_same : (r : Result (List (S.Symbol ℤ)) ImageRefusal) (f g : ℕ → Coming) → ((j : ℕ) → f j ≡ g j) → coming_with r f ≡ coming_with r g
@@ -12,7 +12,7 @@ told_same (Ok ys) f g h = ap (λ c. record { symbols = ys ++ c.symbols; refusal 
 told_same (Err r) f g h = refl
 
 abbrev seen_image : List Homomorphism → ℕ → ℕ → List ℕ → Seen → (ℕ → ℕ → Coming) → Coming
-seen_image hs n k l v more = coming_with (symbol_image hs n k (with_lineage l v)) (λ j. more (modules_behind n (with_lineage l v)) (k + j))
+seen_image hs n k l v more = coming_with (symbol_image hs n k (with_lineage l v)) (λ j. more (modules_after n (with_lineage l v)) (k + j))
 
 seen_same : (hs : List Homomorphism) (n k : ℕ) (l m : List ℕ) (v : Seen) (f g : ℕ → ℕ → Coming) → ((i j : ℕ) → f i j ≡ g i j)
     → seen_image hs n k l v f ≡ seen_image hs n k m v g

@@ -8,7 +8,7 @@ use Rattle.lsys_syntax.specs.Strings as S
 use Rattle.lsys_spec.specs.Levels.{plain}
 use Rattle.lsys_spec.specs.Images.{ImageLimit, within_image}
 use Rattle.lsys_level.specs.Spots.{Seen, Push, Pop, Module, Spotted, spots_at, with_lineage}
-use Rattle.lsys_hom.specs.Coming.{Coming, coming_from, modules_behind, symbol_image, coming_with}
+use Rattle.lsys_hom.specs.Coming.{Coming, coming_from, modules_after, symbol_image, coming_with}
 use Rattle.lsys_hom.specs.Ways.{at, bare_level, symbols_from}
 
 -- what stands at a place, and what stands after it
@@ -22,16 +22,16 @@ stands [] p v e = absurd (cc)
 stands (s ∷ x) zero v e = record { spotted = s; is = refl; seen = cc }
 stands (s ∷ x) (suc p) v e = let h = stands x p v e in record { spotted = h.spotted; is = h.is; seen = h.seen }
 
-abbrev pub behind : List Homomorphism → ℕ → ℕ → Seen → List Spotted → ℕ → Coming
-behind hs n k v rest j = coming_from hs (modules_behind n (with_lineage [] v)) (k + j) (bare_level rest)
+abbrev pub after : List Homomorphism → ℕ → ℕ → Seen → List Spotted → ℕ → Coming
+after hs n k v rest j = coming_from hs (modules_after n (with_lineage [] v)) (k + j) (bare_level rest)
 
 pub coming_passed : (hs : List Homomorphism) (n k : ℕ) (x : List Spotted) (p : ℕ) (v : Seen) → option_map (λ s. s.seen) (slice_get x p) ≡ Some v
-    → coming_from hs n k (bare_level (drop p x)) ≡ coming_with (symbol_image hs n k (with_lineage [] v)) (behind hs n k v (drop (p + 1) x))
+    → coming_from hs n k (bare_level (drop p x)) ≡ coming_with (symbol_image hs n k (with_lineage [] v)) (after hs n k v (drop (p + 1) x))
 coming_passed hs n k x p v e =
     let h = stands x p v e in
     ap (λ r. coming_from hs n k (bare_level r)) h.is
-    ∙ ap (λ w. coming_with (symbol_image hs n k (with_lineage [] w)) (behind hs n k w (drop (suc p) x))) h.seen
-    ∙ ap (λ q. coming_with (symbol_image hs n k (with_lineage [] v)) (behind hs n k v (drop q x))) (sym (add-one p))
+    ∙ ap (λ w. coming_with (symbol_image hs n k (with_lineage [] w)) (after hs n k w (drop (suc p) x))) h.seen
+    ∙ ap (λ q. coming_with (symbol_image hs n k (with_lineage [] v)) (after hs n k v (drop q x))) (sym (add-one p))
 
 within_one : (k : ℕ) (x : S.Symbol ℤ) → k < most_image_symbols → within_image k (x ∷ []) ≡ Ok (x ∷ [])
 within_one k x h = by (nat_lt most_image_symbols (k + 1)) refl
@@ -54,14 +54,14 @@ left_passed x p v e =
     let m : length (drop (p + 1) x) ≡ length (drop (suc p) x) = ap (λ q. length (drop q x)) (add-one p) in
     omega (arith, l, m)
 
-none_behind : (x : List Spotted) (p : ℕ) → p ≡ length x → [] ≡ drop p x
-none_behind [] p e = rw e refl
-none_behind (s ∷ x) zero e = absurd (omega (arith, e))
-none_behind (s ∷ x) (suc p) e = none_behind x p (omega (arith, e))
+none_after : (x : List Spotted) (p : ℕ) → p ≡ length x → [] ≡ drop p x
+none_after [] p e = rw e refl
+none_after (s ∷ x) zero e = absurd (omega (arith, e))
+none_after (s ∷ x) (suc p) e = none_after x p (omega (arith, e))
 
 -- the spot to the right stands before what is left
 pub right_rest : {S : Type 0} (level_of place_of : S → ℕ) (levels : List (List Spotted)) (t p : ℕ) (spot : Option S)
     → MatchOption spot (p + 1 ≡ length (spots_at levels t)) (λ s. (level_of s ≡ t) × (place_of s ≡ p + 1) × (place_of s < length (spots_at levels t)))
     → symbols_from levels (at level_of place_of spot) ≡ drop (p + 1) (spots_at levels t)
-right_rest level_of place_of levels t p None e = none_behind (spots_at levels t) (p + 1) e
+right_rest level_of place_of levels t p None e = none_after (spots_at levels t) (p + 1) e
 right_rest level_of place_of levels t p (Some s) h = ap₂ (λ u q. drop q (spots_at levels u)) h.0 h.1

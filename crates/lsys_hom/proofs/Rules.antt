@@ -9,7 +9,7 @@ use Rattle.lsys_spec.specs.Meaning.{filled}
 use Rattle.lsys_spec.specs.Images.{for_module, image_of}
 use Rattle.lsys_expr.specs.Answers.{as_meant}
 use Rattle.lsys_expr.specs.declared.arith.Arith as code
-use Rattle.lsys_rewrite.proofs.Behind.{drop_item}
+use Rattle.lsys_rewrite.proofs.After.{drop_item}
 use Rattle.lsys_bodies.specs.Views.{homomorphism_of}
 use Rattle.lsys_bodies.specs.declared.rule.HomRule.{HomRule}
 use Rattle.lsys_hom.specs.Parts.{applies}

@@ -31,17 +31,17 @@ front_fault : (first more : Result (List (S.Symbol ℤ)) Arith) (e : Arith) → 
 front_fault (Ok xs) more e h = absurd (cc)
 front_fault (Err k) more e h = h
 
-pub fault_behind : (t : S.Symbol Tree) (ts : List (S.Symbol Tree)) (bound : List ℤ) → Ok tt ≡ fault_alone (filled (t ∷ []) bound) → fault_alone (filled (t ∷ ts) bound) ≡ fault_alone (filled ts bound)
-fault_behind t ts bound h = ap fault_alone (filled_front t ts bound) ∙ front_whole (filled (t ∷ []) bound) (filled ts bound) h
+pub fault_after : (t : S.Symbol Tree) (ts : List (S.Symbol Tree)) (bound : List ℤ) → Ok tt ≡ fault_alone (filled (t ∷ []) bound) → fault_alone (filled (t ∷ ts) bound) ≡ fault_alone (filled ts bound)
+fault_after t ts bound h = ap fault_alone (filled_front t ts bound) ∙ front_whole (filled (t ∷ []) bound) (filled ts bound) h
 
 pub fault_first : (t : S.Symbol Tree) (ts : List (S.Symbol Tree)) (bound : List ℤ) (e : Arith) → Err e ≡ fault_alone (filled (t ∷ []) bound) → Err e ≡ fault_alone (filled (t ∷ ts) bound)
 fault_first t ts bound e h = front_fault (filled (t ∷ []) bound) (filled ts bound) e h ∙ ap fault_alone (sym (filled_front t ts bound))
 
 -- a parameter, and those after it
-pub params_behind : (z : ℤ) (first : Result ℤ Arith) (more : Result (List ℤ) Arith) → Ok z ≡ first → fault_alone (first and_then λ y. more and_then λ ys. Ok (y ∷ ys)) ≡ fault_alone more
-params_behind z (Ok y) (Ok ys) h = refl
-params_behind z (Ok y) (Err e) h = refl
-params_behind z (Err k) more h = absurd (cc)
+pub params_after : (z : ℤ) (first : Result ℤ Arith) (more : Result (List ℤ) Arith) → Ok z ≡ first → fault_alone (first and_then λ y. more and_then λ ys. Ok (y ∷ ys)) ≡ fault_alone more
+params_after z (Ok y) (Ok ys) h = refl
+params_after z (Ok y) (Err e) h = refl
+params_after z (Err k) more h = absurd (cc)
 
 pub params_first : (e : Arith) (first : Result ℤ Arith) (more : Result (List ℤ) Arith) → Err e ≡ first → Err e ≡ fault_alone (first and_then λ y. more and_then λ ys. Ok (y ∷ ys))
 params_first e (Ok y) more h = absurd (cc)

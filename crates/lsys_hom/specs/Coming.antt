@@ -21,19 +21,19 @@ symbol_image hs n k (Pop l) = within_image k (S.Pop ∷ [])
 symbol_image hs n k (Module l m) = image_fault (n + 1) (image_of hs m) and_then within_image k
 
 -- the number of modules up to a symbol, where n stand before it
-abbrev pub modules_behind : ℕ → LevelSymbol → ℕ
-modules_behind n (Module l m) = n + 1
-modules_behind n s = n
+abbrev pub modules_after : ℕ → LevelSymbol → ℕ
+modules_after n (Module l m) = n + 1
+modules_after n s = n
 
 -- these symbols and what comes after so many, or a refusal
 abbrev pub coming_with : Result (List (S.Symbol ℤ)) ImageRefusal → (ℕ → Coming) → Coming
-coming_with (Ok ys) behind = let c = behind (length ys) in record { symbols = ys ++ c.symbols; refusal = c.refusal }
-coming_with (Err r) behind = record { symbols = []; refusal = Some r }
+coming_with (Ok ys) after = let c = after (length ys) in record { symbols = ys ++ c.symbols; refusal = c.refusal }
+coming_with (Err r) after = record { symbols = []; refusal = Some r }
 
 -- the images of the symbols, up to the first that refuses the whole image
 abbrev pub coming_from : List Homomorphism → ℕ → ℕ → List LevelSymbol → Coming
 coming_from hs n k [] = nothing_coming
-coming_from hs n k (s ∷ rest) = coming_with (symbol_image hs n k s) (λ j. coming_from hs (modules_behind n s) (k + j) rest)
+coming_from hs n k (s ∷ rest) = coming_with (symbol_image hs n k s) (λ j. coming_from hs (modules_after n s) (k + j) rest)
 
 -- all of a level's image
 abbrev pub coming : System → List LevelSymbol → Coming

@@ -4,7 +4,7 @@ ghost use Rattle.lsys_syntax.specs.Limits.{most_image_symbols};
 ghost use Rattle.lsys_bodies.specs.Views.{homomorphism_of};
 ghost use Rattle.lsys_level.specs.Views.{HasFewParams, seen_of};
 ghost use Rattle.lsys_level.specs.Spots.{spots_at, with_lineage};
-ghost use Rattle.lsys_hom.specs.Coming.{modules_behind};
+ghost use Rattle.lsys_hom.specs.Coming.{modules_after};
 ghost use Rattle.lsys_hom.specs.Looks.{IsKeptLook};
 ghost use Rattle.lsys_hom.specs.Parts.{IsPartOf};
 ghost use Rattle.lsys_hom.specs.Ways.{IsSoundPartIfAny, IsNextPart, IsSymbolPassed, is_empty_part, coming_by};
@@ -77,7 +77,7 @@ impl<'a, W: LevelView> Walk<'a, W> {
         }
         let view = self.view;
         let sight = view.sight(spot);
-        self.modules = modules_behind(self.modules, &sight);
+        self.modules = modules_after(self.modules, &sight);
         self.symbols += 1;
         self.spot = view.right(spot);
         Some(look_of(sight))
@@ -112,7 +112,7 @@ impl<'a, W: LevelView> Walk<'a, W> {
         };
         let view = self.view;
         let sight = view.sight(spot);
-        let modules = modules_behind(self.modules, &sight);
+        let modules = modules_after(self.modules, &sight);
         match part_of(self.rules, sight, self.modules, self.symbols) {
             Err(refusal) => Err(refusal),
             Ok(part) => {
@@ -137,9 +137,9 @@ fn is_empty(passed: &Result<Option<Part<'_>>, ImageRefusal>) -> bool
 }
 
 /// How many modules there are up to a symbol, where so many stand before it.
-fn modules_behind(modules: u32, sight: &Sight<'_>) -> u32
+fn modules_after(modules: u32, sight: &Sight<'_>) -> u32
     requires { modules < u32.MAX }
-    ensures { result ≡ modules_behind modules (with_lineage [] (seen_of sight.now)) }
+    ensures { result ≡ modules_after modules (with_lineage [] (seen_of sight.now)) }
 {
     match sight {
         Sight::Module { .. } => modules + 1,

@@ -33,10 +33,10 @@ skip-range bytes from to n h =
     rw (whole, drop-take n (to - (from + n)) (drop from bytes), drop-drop n from bytes)
 
 -- some bytes were written, and then a front of others
-pub front_behind : {T E : Type 0} (a b c : Option (List ℕ)) (before bytes : List ℕ) (result : Result T E) → Appends a b before
+pub front_after : {T E : Type 0} (a b c : Option (List ℕ)) (before bytes : List ℕ) (result : Result T E) → Appends a b before
     → OnErr result (AppendsFront b c bytes) → OnErr result (AppendsFront a c (before ++ bytes))
-front_behind a b c before bytes (Ok x) h k = tt
-front_behind a b c before bytes (Err e) h k = (
+front_after a b c before bytes (Ok x) h k = tt
+front_after a b c before bytes (Err e) h k = (
   length before + k.0,
   omega (arith, length-append before bytes, k.1),
   rw (take-append-add before bytes k.0) (Appends-trans a b c before (take k.0 bytes) h k.2),

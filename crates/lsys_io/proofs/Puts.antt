@@ -18,27 +18,27 @@ front_of_more a b bytes more h = (
 )
 
 -- what was written of the bytes before, and then of what was held and more
-front_joined : (x y z held behind text more : List ℕ) (i n : ℕ) → y ++ behind ≡ (x ++ held) ++ text → i ≤ length (held ++ text) → y ≡ x ++ take i (held ++ text) → z ≡ y ++ take n (behind ++ more)
+front_joined : (x y z held after text more : List ℕ) (i n : ℕ) → y ++ after ≡ (x ++ held) ++ text → i ≤ length (held ++ text) → y ≡ x ++ take i (held ++ text) → z ≡ y ++ take n (after ++ more)
     → z ≡ x ++ take (i + n) (held ++ (text ++ more))
-front_joined x y z held behind text more i n put within first second =
+front_joined x y z held after text more i n put within first second =
     let all = held ++ text in
-    let whole : take i all ++ behind ≡ all =
-    append_cancel_left x (take i all ++ behind) all (sym (append_assoc x (take i all) behind) ∙ ap (λ t. t ++ behind) (sym first) ∙ put ∙ append_assoc x held text) in
-    let rest : take (i + n) (held ++ (text ++ more)) ≡ take i all ++ take n (behind ++ more) =
-    ap (take (i + n)) (sym (append_assoc held text more) ∙ ap (λ t. t ++ more) (sym whole) ∙ append_assoc (take i all) behind more)
-    ∙ ap (λ k. take (k + n) (take i all ++ (behind ++ more))) (sym (length-take-le i all within))
-    ∙ take-append-add (take i all) (behind ++ more) n in
-    second ∙ ap (λ t. t ++ take n (behind ++ more)) first ∙ append_assoc x (take i all) (take n (behind ++ more)) ∙ ap (λ t. x ++ t) (sym rest)
+    let whole : take i all ++ after ≡ all =
+    append_cancel_left x (take i all ++ after) all (sym (append_assoc x (take i all) after) ∙ ap (λ t. t ++ after) (sym first) ∙ put ∙ append_assoc x held text) in
+    let rest : take (i + n) (held ++ (text ++ more)) ≡ take i all ++ take n (after ++ more) =
+    ap (take (i + n)) (sym (append_assoc held text more) ∙ ap (λ t. t ++ more) (sym whole) ∙ append_assoc (take i all) after more)
+    ∙ ap (λ k. take (k + n) (take i all ++ (after ++ more))) (sym (length-take-le i all within))
+    ∙ take-append-add (take i all) (after ++ more) n in
+    second ∙ ap (λ t. t ++ take n (after ++ more)) first ∙ append_assoc x (take i all) (take n (after ++ more)) ∙ ap (λ t. x ++ t) (sym rest)
 
-front_then : (a b c : Option (List ℕ)) (held behind text more : List ℕ) → Appends (append_known a held) (append_known b behind) text
-    → AppendsFront a b (held ++ text) → AppendsFront b c (behind ++ more) → AppendsFront a c (held ++ (text ++ more))
-front_then None b c held behind text more put f g = (0, omega arith, tt)
-front_then (Some x) None c held behind text more put f g = absurd f.2
-front_then (Some x) (Some y) None held behind text more put f g = absurd g.2
-front_then (Some x) (Some y) (Some z) held behind text more put f g = (
+front_then : (a b c : Option (List ℕ)) (held after text more : List ℕ) → Appends (append_known a held) (append_known b after) text
+    → AppendsFront a b (held ++ text) → AppendsFront b c (after ++ more) → AppendsFront a c (held ++ (text ++ more))
+front_then None b c held after text more put f g = (0, omega arith, tt)
+front_then (Some x) None c held after text more put f g = absurd f.2
+front_then (Some x) (Some y) None held after text more put f g = absurd g.2
+front_then (Some x) (Some y) (Some z) held after text more put f g = (
   f.0 + g.0,
-  omega (arith, f.1, g.1, ap length put, ap length f.2, length-append y behind, length-append (x ++ held) text, length-append x held, length-append x (take f.0 (held ++ text)), length-append held text, length-append text more, length-append held (text ++ more), length-append behind more, length-take-le f.0 (held ++ text) f.1),
-  front_joined x y z held behind text more f.0 g.0 put f.1 f.2 g.2,
+  omega (arith, f.1, g.1, ap length put, ap length f.2, length-append y after, length-append (x ++ held) text, length-append x held, length-append x (take f.0 (held ++ text)), length-append held text, length-append text more, length-append held (text ++ more), length-append after more, length-take-le f.0 (held ++ text) f.1),
+  front_joined x y z held after text more f.0 g.0 put f.1 f.2 g.2,
 )
 
 -- nothing was put

@@ -20,8 +20,8 @@ abbrev at_end : ℕ → List ℕ → List ℕ → LineReading
 at_end taken held line = record { held = held; taken = taken; line = line; stage = Ended }
 
 -- with what the source has left after it
-behind : (held given line after xs ys : List ℕ) → held ++ given ≡ line ++ after → xs ≡ given ++ ys → held ++ xs ≡ line ++ (after ++ ys)
-behind held given line after xs ys split is =
+joined : (held given line after xs ys : List ℕ) → held ++ given ≡ line ++ after → xs ≡ given ++ ys → held ++ xs ≡ line ++ (after ++ ys)
+joined held given line after xs ys split is =
     ap (λ t. held ++ t) is ∙ sym (append_assoc held given ys) ∙ ap (λ t. t ++ ys) split ∙ append_assoc line after ys
 
 whole_bytes : (held given line after : List ℕ) (a b : Option (List ℕ)) → held ++ given ≡ line ++ 10 ∷ after → Consumes a b given
@@ -29,14 +29,14 @@ whole_bytes : (held given line after : List ℕ) (a b : Option (List ℕ)) → h
 whole_bytes held given line after None b split h = tt
 whole_bytes held given line after (Some xs) None split h = absurd h
 whole_bytes held given line after (Some xs) (Some ys) split h =
-    behind held given line (10 ∷ after) xs ys split h ∙ sym (append_assoc line (10 ∷ []) (after ++ ys))
+    joined held given line (10 ∷ after) xs ys split h ∙ sym (append_assoc line (10 ∷ []) (after ++ ys))
 
 whole_first : (held given line after : List ℕ) (a b : Option (List ℕ)) → held ++ given ≡ line ++ 10 ∷ after → has_lf line ≡ false → Consumes a b given
     → HasFirstLine (prepend_known held a) (prepend_known after b) line
 whole_first held given line after None b split no_lf h = tt
 whole_first held given line after (Some xs) None split no_lf h = absurd h
 whole_first held given line after (Some xs) (Some ys) split no_lf h =
-    ap lines_of (behind held given line (10 ∷ after) xs ys split h) ∙ first_line line (after ++ ys) no_lf
+    ap lines_of (joined held given line (10 ∷ after) xs ys split h) ∙ first_line line (after ++ ys) no_lf
 
 -- a line was taken that has so many bytes, and they were kept where they are not too many
 abbrev pub Took : (List ℕ → Type 0) → ℕ → List ℕ → Type 0

@@ -41,7 +41,7 @@ impl Buffered {
     }
 
     /// Puts the bytes after those held, and writes where there is no room.
-    #[tactic(auto, using(crate::proofs::Known::front_behind))]
+    #[tactic(auto, using(crate::proofs::Known::front_after))]
     pub fn put<K: Sink>(&mut self, sink: &mut K, bytes: &[u8]) -> Result<(), Failed>
         ensures { Puts K.Sink sink self bytes.now result }
     {

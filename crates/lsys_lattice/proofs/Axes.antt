@@ -82,8 +82,8 @@ module _ (g : Vector → Vector) (p : Vector → ℤ) (v : Vector) (vs : List Ve
   ahead_low : Low (pos 1) (pos 0) (pos 0)
   ahead_low h = least_same g p my (λ w. h w ∙ omega (arith, ints)) v vs ∙ omega (arith, ints)
 
-  behind_low : Low (negsuc 0) (pos 0) (pos 0)
-  behind_low h = least_opposite g p my (λ w. h w ∙ omega (arith, ints)) v vs ∙ omega (arith, ints)
+  after_low : Low (negsuc 0) (pos 0) (pos 0)
+  after_low h = least_opposite g p my (λ w. h w ∙ omega (arith, ints)) v vs ∙ omega (arith, ints)
 
   left_low : Low (pos 0) (pos 1) (pos 0)
   left_low h = least_opposite g p mx (λ w. h w ∙ omega (arith, ints)) v vs ∙ omega (arith, ints)
@@ -100,8 +100,8 @@ module _ (g : Vector → Vector) (p : Vector → ℤ) (v : Vector) (vs : List Ve
   ahead_high : High (pos 1) (pos 0) (pos 0)
   ahead_high h = greatest_same g p my (λ w. h w ∙ omega (arith, ints)) v vs ∙ omega (arith, ints)
 
-  behind_high : High (negsuc 0) (pos 0) (pos 0)
-  behind_high h = greatest_opposite g p my (λ w. h w ∙ omega (arith, ints)) v vs ∙ omega (arith, ints)
+  after_high : High (negsuc 0) (pos 0) (pos 0)
+  after_high h = greatest_opposite g p my (λ w. h w ∙ omega (arith, ints)) v vs ∙ omega (arith, ints)
 
   left_high : High (pos 0) (pos 1) (pos 0)
   left_high h = greatest_opposite g p mx (λ w. h w ∙ omega (arith, ints)) v vs ∙ omega (arith, ints)
@@ -120,7 +120,7 @@ module _ (g : Vector → Vector) (p : Vector → ℤ) (v : Vector) (vs : List Ve
 
   low_there : (a b c : ℤ) → IsAxis a b c → Low a b c
   low_there a b c (inl e) = at Low a b c _ _ _ e ahead_low
-  low_there a b c (inr (inl e)) = at Low a b c _ _ _ e behind_low
+  low_there a b c (inr (inl e)) = at Low a b c _ _ _ e after_low
   low_there a b c (inr (inr (inl e))) = at Low a b c _ _ _ e left_low
   low_there a b c (inr (inr (inr (inl e)))) = at Low a b c _ _ _ e right_low
   low_there a b c (inr (inr (inr (inr (inl e))))) = at Low a b c _ _ _ e up_low
@@ -128,7 +128,7 @@ module _ (g : Vector → Vector) (p : Vector → ℤ) (v : Vector) (vs : List Ve
 
   high_there : (a b c : ℤ) → IsAxis a b c → High a b c
   high_there a b c (inl e) = at High a b c _ _ _ e ahead_high
-  high_there a b c (inr (inl e)) = at High a b c _ _ _ e behind_high
+  high_there a b c (inr (inl e)) = at High a b c _ _ _ e after_high
   high_there a b c (inr (inr (inl e))) = at High a b c _ _ _ e left_high
   high_there a b c (inr (inr (inr (inl e)))) = at High a b c _ _ _ e right_high
   high_there a b c (inr (inr (inr (inr (inl e))))) = at High a b c _ _ _ e up_high

@@ -11,10 +11,10 @@ use Rattle.lsys_lattice.specs.Nodes.{HasPartBelow}
 use Rattle.lsys_lattice.proofs.Nodes.{part_below}
 use Rattle.lsys_lattice.specs.Images.{level_below, HasDescendants}
 
-pub descendants : (s : System) (n t : ℕ) (before part behind y : List LevelSymbol) → HasBalance s → level_balanced 0 part ≡ true → level_below s t n (before ++ (part ++ behind)) ≡ Ok y
-    → HasDescendants s t n before part behind y
-descendants s zero t before part behind y b h e = let f : before ++ (part ++ behind) ≡ y = cc in (h, sym f)
-descendants s (suc n) t before part behind y b h e =
-    let next = ok_parts (next_level s t (before ++ (part ++ behind))) (λ z. level_below s (suc t) n z) y e in
-    let below : HasPartBelow s t before part behind next.0 = part_below s b t before part behind next.0 h next.1 in
+pub descendants : (s : System) (n t : ℕ) (before part after y : List LevelSymbol) → HasBalance s → level_balanced 0 part ≡ true → level_below s t n (before ++ (part ++ after)) ≡ Ok y
+    → HasDescendants s t n before part after y
+descendants s zero t before part after y b h e = let f : before ++ (part ++ after) ≡ y = cc in (h, sym f)
+descendants s (suc n) t before part after y b h e =
+    let next = ok_parts (next_level s t (before ++ (part ++ after))) (λ z. level_below s (suc t) n z) y e in
+    let below : HasPartBelow s t before part after next.0 = part_below s b t before part after next.0 h next.1 in
     (next.0, below, descendants s n (suc t) below.left (cut_on below.cutting below.raw) below.right y b below.balanced (ap (level_below s (suc t) n) (sym below.is) ∙ next.2))

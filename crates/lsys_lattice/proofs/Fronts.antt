@@ -110,8 +110,8 @@ all_taken n [] h = grind (arith, common_steps)
 all_taken zero (x ∷ xs) h = absurd (omega arith)
 all_taken (suc n) (x ∷ xs) h = ap (λ ys. x ∷ ys) (all_taken n xs (omega arith))
 
-pub course_behind : (l : Lattice) (n : ℕ) (xs : List (S.Symbol ℤ)) → balanced 0 xs ≡ true → length xs + 2 ≤ n → course l n (S.Push ∷ xs ++ S.Pop ∷ []) ≡ first_walker l
-course_behind l n xs b h =
+pub course_after : (l : Lattice) (n : ℕ) (xs : List (S.Symbol ℤ)) → balanced 0 xs ≡ true → length xs + 2 ≤ n → course l n (S.Push ∷ xs ++ S.Pop ∷ []) ≡ first_walker l
+course_after l n xs b h =
     let start : Stand = (first_walker l).here in
     let size : length xs + 1 ≡ length (xs ++ S.Pop ∷ []) = sym (length-append xs (S.Pop ∷ [])) in
     ap (λ zs. walked l zs (first_walker l)) (all_taken n (S.Push ∷ xs ++ S.Pop ∷ []) (omega (arith, size, h)))

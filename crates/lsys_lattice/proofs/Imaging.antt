@@ -19,63 +19,63 @@ use Rattle.lsys_syntax.specs.Rules.{IsRule}
 use Rattle.lsys_syntax.specs.Commands.{IsHomomorphism}
 use Rattle.lsys_lattice.specs.Nodes.{modules_in}
 use Rattle.lsys_lattice.proofs.Joining.{never}
-use Rattle.lsys_lattice.specs.Images.{and_behind, HasPartImage}
+use Rattle.lsys_lattice.specs.Images.{and_after, HasPartImage}
 
 abbrev Answer : Type 0
 Answer = Result (List (S.Symbol ℤ)) ImageRefusal
 
 -- 1. one after the other
 
-under : (r : Answer) (k : ℕ) (f g : ℕ → Answer) → ((j : ℕ) → f j ≡ g j) → and_behind r k f ≡ and_behind r k g
+under : (r : Answer) (k : ℕ) (f g : ℕ → Answer) → ((j : ℕ) → f j ≡ g j) → and_after r k f ≡ and_after r k g
 under (Ok ys) k f g h = ap (λ (a : Answer). a and_then λ more. Ok (ys ++ more)) (h (k + length ys))
 under (Err e) k f g h = refl
 
 further : (k : ℕ) (ys zs : List (S.Symbol ℤ)) → k + length ys + length zs ≡ k + length (ys ++ zs)
 further k ys zs = let e : length (ys ++ zs) ≡ length ys + length zs = length-append ys zs in omega (arith, e)
 
-behind_both : (ys zs : List (S.Symbol ℤ)) (a : Answer) → ((a and_then λ more. Ok (zs ++ more)) and_then λ more. Ok (ys ++ more)) ≡ (a and_then λ more. Ok ((ys ++ zs) ++ more))
-behind_both ys zs (Ok more) = ap Ok (sym (append_assoc ys zs more))
-behind_both ys zs (Err e) = refl
+after_both : (ys zs : List (S.Symbol ℤ)) (a : Answer) → ((a and_then λ more. Ok (zs ++ more)) and_then λ more. Ok (ys ++ more)) ≡ (a and_then λ more. Ok ((ys ++ zs) ++ more))
+after_both ys zs (Ok more) = ap Ok (sym (append_assoc ys zs more))
+after_both ys zs (Err e) = refl
 
-behind_behind : (ys : List (S.Symbol ℤ)) (a : Answer) (k : ℕ) (g : ℕ → Answer)
-    → (and_behind a (k + length ys) g and_then λ more. Ok (ys ++ more)) ≡ and_behind (a and_then λ more. Ok (ys ++ more)) k g
-behind_behind ys (Ok zs) k g = behind_both ys zs (g (k + length ys + length zs)) ∙ ap (λ (j : ℕ). g j and_then λ more. Ok ((ys ++ zs) ++ more)) (further k ys zs)
-behind_behind ys (Err e) k g = refl
+after_after : (ys : List (S.Symbol ℤ)) (a : Answer) (k : ℕ) (g : ℕ → Answer)
+    → (and_after a (k + length ys) g and_then λ more. Ok (ys ++ more)) ≡ and_after (a and_then λ more. Ok (ys ++ more)) k g
+after_after ys (Ok zs) k g = after_both ys zs (g (k + length ys + length zs)) ∙ ap (λ (j : ℕ). g j and_then λ more. Ok ((ys ++ zs) ++ more)) (further k ys zs)
+after_after ys (Err e) k g = refl
 
-all_behind : (r : Answer) (k : ℕ) (f g : ℕ → Answer) → and_behind r k (λ j. and_behind (f j) j g) ≡ and_behind (and_behind r k f) k g
-all_behind (Ok ys) k f g = behind_behind ys (f (k + length ys)) k g
-all_behind (Err e) k f g = refl
+all_after : (r : Answer) (k : ℕ) (f g : ℕ → Answer) → and_after r k (λ j. and_after (f j) j g) ≡ and_after (and_after r k f) k g
+all_after (Ok ys) k f g = after_after ys (f (k + length ys)) k g
+all_after (Err e) k f g = refl
 
-one_behind : (b : Bool) (k : ℕ) (x : S.Symbol ℤ) (f : ℕ → Answer)
-    → (cond b (Err ImageLimit) (Ok (x ∷ [])) and_then λ ys. f (k + 1) and_then λ more. Ok (ys ++ more)) ≡ and_behind (cond b (Err ImageLimit) (Ok (x ∷ []))) k f
-one_behind true k x f = refl
-one_behind false k x f = refl
+one_after : (b : Bool) (k : ℕ) (x : S.Symbol ℤ) (f : ℕ → Answer)
+    → (cond b (Err ImageLimit) (Ok (x ∷ [])) and_then λ ys. f (k + 1) and_then λ more. Ok (ys ++ more)) ≡ and_after (cond b (Err ImageLimit) (Ok (x ∷ []))) k f
+one_after true k x f = refl
+one_after false k x f = refl
 
-none_behind : (a : Answer) → a ≡ (a and_then λ more. Ok more)
-none_behind (Ok ys) = refl
-none_behind (Err e) = refl
+none_after : (a : Answer) → a ≡ (a and_then λ more. Ok more)
+none_after (Ok ys) = refl
+none_after (Err e) = refl
 
-from_module : (o : Answer) (k : ℕ) (whole f g : ℕ → Answer) → ((j : ℕ) → whole j ≡ and_behind (f j) j g)
-    → (o and_then λ zs. and_behind (within_image k zs) k whole) ≡ and_behind (o and_then λ zs. and_behind (within_image k zs) k f) k g
-from_module (Ok zs) k whole f g h = under (within_image k zs) k whole (λ j. and_behind (f j) j g) h ∙ all_behind (within_image k zs) k f g
+from_module : (o : Answer) (k : ℕ) (whole f g : ℕ → Answer) → ((j : ℕ) → whole j ≡ and_after (f j) j g)
+    → (o and_then λ zs. and_after (within_image k zs) k whole) ≡ and_after (o and_then λ zs. and_after (within_image k zs) k f) k g
+from_module (Ok zs) k whole f g h = under (within_image k zs) k whole (λ j. and_after (f j) j g) h ∙ all_after (within_image k zs) k f g
 from_module (Err e) k whole f g h = refl
 
-pub image-append : (hs : List Homomorphism) (n k : ℕ) (x y : List LevelSymbol) → image_from hs n k (x ++ y) ≡ and_behind (image_from hs n k x) k (λ j. image_from hs (modules_in n x) j y)
-image-append hs n k [] y = let e : k + 0 ≡ k = omega arith in none_behind (image_from hs n k y) ∙ ap (λ (j : ℕ). image_from hs n j y and_then λ more. Ok more) (sym e)
+pub image-append : (hs : List Homomorphism) (n k : ℕ) (x y : List LevelSymbol) → image_from hs n k (x ++ y) ≡ and_after (image_from hs n k x) k (λ j. image_from hs (modules_in n x) j y)
+image-append hs n k [] y = let e : k + 0 ≡ k = omega arith in none_after (image_from hs n k y) ∙ ap (λ (j : ℕ). image_from hs n j y and_then λ more. Ok more) (sym e)
 image-append hs n k (Push l ∷ x) y =
     let r : Answer = within_image k (S.Push ∷ []) in
     let g : ℕ → Answer = λ j. image_from hs (modules_in n x) j y in
-    one_behind (nat_lt most_image_symbols (k + 1)) k S.Push (λ j. image_from hs n j (x ++ y))
-    ∙ under r k (λ j. image_from hs n j (x ++ y)) (λ j. and_behind (image_from hs n j x) j g) (λ j. image-append hs n j x y)
-    ∙ all_behind r k (λ j. image_from hs n j x) g
-    ∙ ap (λ (a : Answer). and_behind a k g) (sym (one_behind (nat_lt most_image_symbols (k + 1)) k S.Push (λ j. image_from hs n j x)))
+    one_after (nat_lt most_image_symbols (k + 1)) k S.Push (λ j. image_from hs n j (x ++ y))
+    ∙ under r k (λ j. image_from hs n j (x ++ y)) (λ j. and_after (image_from hs n j x) j g) (λ j. image-append hs n j x y)
+    ∙ all_after r k (λ j. image_from hs n j x) g
+    ∙ ap (λ (a : Answer). and_after a k g) (sym (one_after (nat_lt most_image_symbols (k + 1)) k S.Push (λ j. image_from hs n j x)))
 image-append hs n k (Pop l ∷ x) y =
     let r : Answer = within_image k (S.Pop ∷ []) in
     let g : ℕ → Answer = λ j. image_from hs (modules_in n x) j y in
-    one_behind (nat_lt most_image_symbols (k + 1)) k S.Pop (λ j. image_from hs n j (x ++ y))
-    ∙ under r k (λ j. image_from hs n j (x ++ y)) (λ j. and_behind (image_from hs n j x) j g) (λ j. image-append hs n j x y)
-    ∙ all_behind r k (λ j. image_from hs n j x) g
-    ∙ ap (λ (a : Answer). and_behind a k g) (sym (one_behind (nat_lt most_image_symbols (k + 1)) k S.Pop (λ j. image_from hs n j x)))
+    one_after (nat_lt most_image_symbols (k + 1)) k S.Pop (λ j. image_from hs n j (x ++ y))
+    ∙ under r k (λ j. image_from hs n j (x ++ y)) (λ j. and_after (image_from hs n j x) j g) (λ j. image-append hs n j x y)
+    ∙ all_after r k (λ j. image_from hs n j x) g
+    ∙ ap (λ (a : Answer). and_after a k g) (sym (one_after (nat_lt most_image_symbols (k + 1)) k S.Pop (λ j. image_from hs n j x)))
 image-append hs n k (Module l m ∷ x) y =
     from_module (image_fault (n + 1) (image_of hs m)) k (λ j. image_from hs (n + 1) j (x ++ y)) (λ j. image_from hs (n + 1) j x) (λ j. image_from hs (modules_in (n + 1) x) j y)
     (λ j. image-append hs (n + 1) j x y)
@@ -93,27 +93,27 @@ fault_ok : (n m : ℕ) (r : Result (List (S.Symbol ℤ)) Arith) (zs : List (S.Sy
 fault_ok n m (Ok a) zs h = let e : a ≡ zs = cc in ap Ok e
 fault_ok n m (Err e) zs h = cc
 
-behind_ok : (r r' : Answer) (f f' : List (S.Symbol ℤ) → Answer) (ys : List (S.Symbol ℤ)) → ((zs : List (S.Symbol ℤ)) → r ≡ Ok zs → r' ≡ Ok zs) → ((zs more : List (S.Symbol ℤ)) → f zs ≡ Ok more → f' zs ≡ Ok more)
+after_ok : (r r' : Answer) (f f' : List (S.Symbol ℤ) → Answer) (ys : List (S.Symbol ℤ)) → ((zs : List (S.Symbol ℤ)) → r ≡ Ok zs → r' ≡ Ok zs) → ((zs more : List (S.Symbol ℤ)) → f zs ≡ Ok more → f' zs ≡ Ok more)
     → (r and_then f) ≡ Ok ys → (r' and_then f') ≡ Ok ys
-behind_ok r r' f f' ys g h e = let a = ok_parts r f ys e in ap (λ (q : Answer). q and_then f') (g a.0 a.1) ∙ h a.0 ys a.2
+after_ok r r' f f' ys g h e = let a = ok_parts r f ys e in ap (λ (q : Answer). q and_then f') (g a.0 a.1) ∙ h a.0 ys a.2
 
 pub image_anywhere : (hs : List Homomorphism) (x : List LevelSymbol) (n k : ℕ) (ys : List (S.Symbol ℤ)) → image_from hs n k x ≡ Ok ys → (m j : ℕ) → j ≤ k → image_from hs m j x ≡ Ok ys
 image_anywhere hs [] n k ys h m j o = h
 image_anywhere hs (Push l ∷ x) n k ys h m j o =
-    behind_ok (within_image k (S.Push ∷ [])) (within_image j (S.Push ∷ [])) _ _ ys (λ zs e. within_ok k (S.Push ∷ []) zs e j o)
-    (λ zs more. behind_ok (image_from hs n (k + 1) x) (image_from hs m (j + 1) x) _ _ more (λ us e. image_anywhere hs x n (k + 1) us e m (j + 1) (omega (arith, o))) (λ us vs e. e)) h
+    after_ok (within_image k (S.Push ∷ [])) (within_image j (S.Push ∷ [])) _ _ ys (λ zs e. within_ok k (S.Push ∷ []) zs e j o)
+    (λ zs more. after_ok (image_from hs n (k + 1) x) (image_from hs m (j + 1) x) _ _ more (λ us e. image_anywhere hs x n (k + 1) us e m (j + 1) (omega (arith, o))) (λ us vs e. e)) h
 image_anywhere hs (Pop l ∷ x) n k ys h m j o =
-    behind_ok (within_image k (S.Pop ∷ [])) (within_image j (S.Pop ∷ [])) _ _ ys (λ zs e. within_ok k (S.Pop ∷ []) zs e j o)
-    (λ zs more. behind_ok (image_from hs n (k + 1) x) (image_from hs m (j + 1) x) _ _ more (λ us e. image_anywhere hs x n (k + 1) us e m (j + 1) (omega (arith, o))) (λ us vs e. e)) h
+    after_ok (within_image k (S.Pop ∷ [])) (within_image j (S.Pop ∷ [])) _ _ ys (λ zs e. within_ok k (S.Pop ∷ []) zs e j o)
+    (λ zs more. after_ok (image_from hs n (k + 1) x) (image_from hs m (j + 1) x) _ _ more (λ us e. image_anywhere hs x n (k + 1) us e m (j + 1) (omega (arith, o))) (λ us vs e. e)) h
 image_anywhere hs (Module l a ∷ x) n k ys h m j o =
-    behind_ok (image_fault (n + 1) (image_of hs a)) (image_fault (m + 1) (image_of hs a)) _ _ ys (fault_ok (n + 1) (m + 1) (image_of hs a))
-    (λ is all. behind_ok (within_image k is) (within_image j is) _ _ all (λ zs e. within_ok k is zs e j o)
-    (λ zs more. behind_ok (image_from hs (n + 1) (k + length zs) x) (image_from hs (m + 1) (j + length zs) x) _ _ more
+    after_ok (image_fault (n + 1) (image_of hs a)) (image_fault (m + 1) (image_of hs a)) _ _ ys (fault_ok (n + 1) (m + 1) (image_of hs a))
+    (λ is all. after_ok (within_image k is) (within_image j is) _ _ all (λ zs e. within_ok k is zs e j o)
+    (λ zs more. after_ok (image_from hs (n + 1) (k + length zs) x) (image_from hs (m + 1) (j + length zs) x) _ _ more
     (λ us e. image_anywhere hs x (n + 1) (k + length zs) us e (m + 1) (j + length zs) (omega (arith, o))) (λ us vs e. e))) h
 
 -- 3. the middle part
 
-two_parts : (a : Answer) (k : ℕ) (f : ℕ → Answer) (ys : List (S.Symbol ℤ)) → and_behind a k f ≡ Ok ys
+two_parts : (a : Answer) (k : ℕ) (f : ℕ → Answer) (ys : List (S.Symbol ℤ)) → and_after a k f ≡ Ok ys
     → (us : List (S.Symbol ℤ)) × (vs : List (S.Symbol ℤ)) × (a ≡ Ok us) × (f (k + length us) ≡ Ok vs) × (ys ≡ us ++ vs)
 two_parts a k f ys h =
     let one = ok_parts a (λ us. f (k + length us) and_then λ more. Ok (us ++ more)) ys h in
@@ -121,13 +121,13 @@ two_parts a k f ys h =
     let e : one.0 ++ two.0 ≡ ys = let i = two.2 in cc in
     (one.0, two.0, one.1, two.1, sym e)
 
-pub part_image : (s : System) (before part behind : List LevelSymbol) (ys : List (S.Symbol ℤ)) → image s (before ++ (part ++ behind)) ≡ Ok ys → HasPartImage s before part behind ys
-part_image s before part behind ys h =
+pub part_image : (s : System) (before part after : List LevelSymbol) (ys : List (S.Symbol ℤ)) → image s (before ++ (part ++ after)) ≡ Ok ys → HasPartImage s before part after ys
+part_image s before part after ys h =
     let hs : List Homomorphism = s.homomorphisms in
     let n : ℕ = modules_in 0 before in
-    let outer = two_parts (image_from hs 0 0 before) 0 (λ j. image_from hs n j (part ++ behind)) ys (sym (image-append hs 0 0 before (part ++ behind)) ∙ h) in
+    let outer = two_parts (image_from hs 0 0 before) 0 (λ j. image_from hs n j (part ++ after)) ys (sym (image-append hs 0 0 before (part ++ after)) ∙ h) in
     let k : ℕ = 0 + length outer.0 in
-    let inner = two_parts (image_from hs n k part) k (λ j. image_from hs (modules_in n part) j behind) outer.1 (sym (image-append hs n k part behind) ∙ outer.3) in
+    let inner = two_parts (image_from hs n k part) k (λ j. image_from hs (modules_in n part) j after) outer.1 (sym (image-append hs n k part after) ∙ outer.3) in
     record {
       left = outer.0;
       own = inner.0;
@@ -135,7 +135,7 @@ part_image s before part behind ys h =
       is = outer.4 ∙ ap (λ zs. outer.0 ++ zs) inner.4;
       of_before = outer.2;
       of_part = image_anywhere hs part n k inner.0 inner.2 0 0 (omega arith);
-      of_behind = image_anywhere hs behind (modules_in n part) (k + length inner.0) inner.1 inner.3 0 0 (omega arith);
+      of_after = image_anywhere hs after (modules_in n part) (k + length inner.0) inner.1 inner.3 0 0 (omega arith);
     }
 
 -- 4. balance

@@ -11,11 +11,11 @@ use Rattle.lsys_spec.specs.LevelLaws.{HasBalance}
 use Rattle.lsys_spec.specs.Meaning.{LevelRefusal, children, successor, fault_at, children_from, next_level}
 use Rattle.lsys_spec.proofs.Cutting.{cut_balanced}
 use Rattle.lsys_spec.proofs.Offspring.{offspring, offspring_balanced}
-use Rattle.lsys_lattice.specs.Nodes.{cutting_behind_part, modules_in, HasPartBelow}
+use Rattle.lsys_lattice.specs.Nodes.{cutting_after_part, modules_in, HasPartBelow}
 
 -- 1. the cut of a part
 
-pub cut-append : (c : Option ℕ) (x y : List Raw) → cut_on c (x ++ y) ≡ cut_on c x ++ cut_on (cutting_behind_part c x) y
+pub cut-append : (c : Option ℕ) (x y : List Raw) → cut_on c (x ++ y) ≡ cut_on c x ++ cut_on (cutting_after_part c x) y
 cut-append None [] y = refl
 cut-append (Some n) [] y = refl
 cut-append None (Cut l ∷ x) y = cut-append (Some 0) x y
@@ -44,8 +44,8 @@ part_balanced (Some n) x h = let e = all_cut x 0 n n (omega arith) h in rw e ref
 pub middle_part : (a x b : List Raw) → raw_balanced 0 x ≡ true
     → (c : Option ℕ) × (d : Option ℕ) × (cut_on None (a ++ (x ++ b)) ≡ cut_on None a ++ (cut_on c x ++ cut_on d b)) × (level_balanced 0 (cut_on c x) ≡ true)
 middle_part a x b h =
-    let c = cutting_behind_part None a in
-    (c, cutting_behind_part c x, cut-append None a (x ++ b) ∙ ap (λ ss. cut_on None a ++ ss) (cut-append c x b), part_balanced c x h)
+    let c = cutting_after_part None a in
+    (c, cutting_after_part c x, cut-append None a (x ++ b) ∙ ap (λ ss. cut_on None a ++ ss) (cut-append c x b), part_balanced c x h)
 
 -- 2. the children of a part
 
@@ -96,16 +96,16 @@ cut_ok : (r : Result (List Raw) LevelRefusal) (y : List LevelSymbol) → (r and_
 cut_ok (Ok raws) y h = let e : cut raws ≡ y = cc in (raws, refl, e)
 cut_ok (Err e) y h = cc
 
-pub part_below : (s : System) → HasBalance s → (t : ℕ) (before part behind y : List LevelSymbol) → level_balanced 0 part ≡ true → next_level s t (before ++ (part ++ behind)) ≡ Ok y
-    → HasPartBelow s t before part behind y
-part_below s b t before part behind y balance h =
-    let x : List LevelSymbol = before ++ (part ++ behind) in
+pub part_below : (s : System) → HasBalance s → (t : ℕ) (before part after y : List LevelSymbol) → level_balanced 0 part ≡ true → next_level s t (before ++ (part ++ after)) ≡ Ok y
+    → HasPartBelow s t before part after y
+part_below s b t before part after y balance h =
+    let x : List LevelSymbol = before ++ (part ++ after) in
     let k : ℕ = length before in
     let n : ℕ = modules_in 0 before in
     let from_none : k ≡ 0 + k = omega arith in
     let all = cut_ok (children_from s t x 0 0 x) y h in
-    let outer = both_ok (children_from s t x 0 0 before) (children_from s t x k n (part ++ behind)) all.0 (ap (λ (q : ℕ). joined (children_from s t x 0 0 before) (children_from s t x q n (part ++ behind))) from_none ∙ sym (children-append s t x 0 0 before (part ++ behind)) ∙ all.1) in
-    let inner = both_ok (children_from s t x k n part) (children_from s t x (k + length part) (modules_in n part) behind) outer.1 (sym (children-append s t x k n part behind) ∙ outer.3) in
+    let outer = both_ok (children_from s t x 0 0 before) (children_from s t x k n (part ++ after)) all.0 (ap (λ (q : ℕ). joined (children_from s t x 0 0 before) (children_from s t x q n (part ++ after))) from_none ∙ sym (children-append s t x 0 0 before (part ++ after)) ∙ all.1) in
+    let inner = both_ok (children_from s t x k n part) (children_from s t x (k + length part) (modules_in n part) after) outer.1 (sym (children-append s t x k n part after) ∙ outer.3) in
     let raw : List Raw = inner.0 in
     let whole : raw_balanced 0 raw ≡ true = offspring_balanced s.numbering part raw 0 (offspring s b t x k n part raw inner.2) balance in
     let middle = middle_part outer.0 raw inner.1 whole in

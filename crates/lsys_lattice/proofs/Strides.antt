@@ -13,7 +13,7 @@ use Rattle.lsys_lattice.specs.Effects.{Stand, Walker, walker, walked, first_walk
 use Rattle.lsys_lattice.proofs.Moving.{law_of_effects}
 use Rattle.lsys_lattice.proofs.Turning.{followed-known}
 use Rattle.lsys_lattice.specs.Courses.{course, onward, inward, strung, AreAllBalanced, led_through, Grouping, Run, Row, Branch, nested_string, HasBalancedRuns, descent}
-use Rattle.lsys_lattice.proofs.Fronts.{first_known, effect_known, course_first, course_second, course_branch, course_behind, walked-append}
+use Rattle.lsys_lattice.proofs.Fronts.{first_known, effect_known, course_first, course_second, course_branch, course_after, walked-append}
 use Rattle.lsys_lattice.proofs.Joining.{balanced-append}
 
 -- 1. side by side
@@ -33,14 +33,14 @@ led_from l from (xs ∷ parts) k h =
 pub led_there : (l : Lattice) (parts : List (List (S.Symbol ℤ))) → AreAllBalanced parts → effect l (strung parts) ≡ led_through l (first_walker l).here parts
 led_there l parts h = ap (λ (w : Walker). w.here) (led_from l (first_walker l).here parts (first_known l) h)
 
-pub course_inside : (l : Lattice) (n : ℕ) (before : List (List (S.Symbol ℤ))) (part behind : List (S.Symbol ℤ)) → AreAllBalanced before → balanced 0 part ≡ true → n ≤ length part
-    → course l (length (strung before) + n) (strung before ++ (part ++ behind)) ≡ walker_from l (led_through l (first_walker l).here before) [] (course l n part)
-course_inside l n before part behind b c h =
+pub course_inside : (l : Lattice) (n : ℕ) (before : List (List (S.Symbol ℤ))) (part after : List (S.Symbol ℤ)) → AreAllBalanced before → balanced 0 part ≡ true → n ≤ length part
+    → course l (length (strung before) + n) (strung before ++ (part ++ after)) ≡ walker_from l (led_through l (first_walker l).here before) [] (course l n part)
+course_inside l n before part after b c h =
     let k : ℕ = length (strung before) in
     let size : length (strung before ++ part) ≡ k + length part = length-append (strung before) part in
     let few : k + n ≤ length (strung before ++ part) = omega (arith, size, h) in
-    ap (course l (k + n)) (sym (append_assoc (strung before) part behind))
-    ∙ course_first l (k + n) (strung before ++ part) behind few
+    ap (course l (k + n)) (sym (append_assoc (strung before) part after))
+    ∙ course_first l (k + n) (strung before ++ part) after few
     ∙ course_second l n (strung before) part (strung_balanced before b) c
     ∙ ap (λ (h : Stand). walker_from l h [] (course l n part)) (led_there l before b)
 
@@ -85,7 +85,7 @@ descent_there l (suc n) (Branch a) h few =
     chosen (nat_lt k n) _ _ _
     (λ past.
     let beyond : k < n = grind (arith, nat_tests) in
-    sym (course_behind l (suc n) (nested_string a) (parts_balanced a h) (omega (arith, beyond))))
+    sym (course_after l (suc n) (nested_string a) (parts_balanced a h) (omega (arith, beyond))))
     (λ not_past.
     let within : n ≤ k = grind (arith, nat_tests) in
     ap (inward l) (descent_there l n a h within) ∙ sym (course_branch l n (nested_string a) (parts_balanced a h) within))

@@ -47,8 +47,8 @@ either_way l xs ys zs a b c =
 pub rest_before : (l : Lattice) (xs : List (S.Symbol ℤ)) → balanced 0 xs ≡ true → joined_motions l (at_rest l 0) (motion l xs) ≡ motion l xs
 rest_before l xs b = sym (whole_motion l [] xs refl b)
 
-pub rest_behind : (l : Lattice) (xs : List (S.Symbol ℤ)) → balanced 0 xs ≡ true → joined_motions l (motion l xs) (at_rest l 0) ≡ motion l xs
-rest_behind l xs b = sym (whole_motion l xs [] b refl) ∙ ap (motion l) (append-nil xs)
+pub rest_after : (l : Lattice) (xs : List (S.Symbol ℤ)) → balanced 0 xs ≡ true → joined_motions l (motion l xs) (at_rest l 0) ≡ motion l xs
+rest_after l xs b = sym (whole_motion l xs [] b refl) ∙ ap (motion l) (append-nil xs)
 
 pub bounds_told : (l : Lattice) (xs : List (S.Symbol ℤ)) (gs : List Segment) → segments_of l xs ≡ Ok gs → Some (bounds_of l gs) ≡ united (Some (extents l origin [])) (motion l xs).drawn
 bounds_told l xs gs h =

@@ -19,6 +19,6 @@ CutsLeaveBalancedParts =
 -- the children of a balanced part of a level stand side by side in the next level, and are balanced
 abbrev pub ChildrenOfPartsStandSideBySide : Type 0
 ChildrenOfPartsStandSideBySide =
-    (s : System) (t : ℕ) (before part behind y : List LevelSymbol) → HasBalance s
+    (s : System) (t : ℕ) (before part after y : List LevelSymbol) → HasBalance s
     → level_balanced 0 part ≡ true
-    → next_level s t (before ++ (part ++ behind)) ≡ Ok y → HasPartBelow s t before part behind y
+    → next_level s t (before ++ (part ++ after)) ≡ Ok y → HasPartBelow s t before part after y

@@ -50,5 +50,5 @@ bounds s x = travelled s x and_then λ way. Ok (bounds_of s.lattice way.1)
 abbrev pub turtle_at : Lattice → ℕ → List (S.Symbol ℤ) → Option Turtle
 turtle_at l n ys = if nat_lt (length ys) n then None else turtle_after l (at_start l) (take n ys)
 
-abbrev pub turtle_behind : System → List L.LevelSymbol → ℕ → Result (Option Turtle) PictureRefusal
-turtle_behind s x n = travelled s x and_then λ way. Ok (turtle_at s.lattice n way.0)
+abbrev pub turtle_or_refusal : System → List L.LevelSymbol → ℕ → Result (Option Turtle) PictureRefusal
+turtle_or_refusal s x n = travelled s x and_then λ way. Ok (turtle_at s.lattice n way.0)

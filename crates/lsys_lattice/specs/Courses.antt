@@ -35,7 +35,7 @@ led_through l from (xs ∷ parts) = led_through l (stand_from l from (effect l x
 
 pub data Grouping : Type 0 where
   Run : List (S.Symbol ℤ) → Grouping  -- symbols that are walked one by one
-  Row : Grouping → Grouping → Grouping  -- one behind the other
+  Row : Grouping → Grouping → Grouping  -- one after the other
   Branch : Grouping → Grouping  -- between brackets
 
 abbrev pub nested_string : Grouping → List (S.Symbol ℤ)

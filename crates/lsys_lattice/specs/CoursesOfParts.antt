@@ -54,9 +54,9 @@ PartsLeadOneAfterTheOther =
 -- those before it led, whatever stands after it
 abbrev pub PartsAreGoneFromWhereOthersLed : Type 0
 PartsAreGoneFromWhereOthersLed =
-    (l : Lattice) (n : ℕ) (before : List (List (S.Symbol ℤ))) (part behind : List (S.Symbol ℤ))
+    (l : Lattice) (n : ℕ) (before : List (List (S.Symbol ℤ))) (part after : List (S.Symbol ℤ))
     → AreAllBalanced before → balanced 0 part ≡ true → n ≤ length part
-    → course l (length (strung before) + n) (strung before ++ (part ++ behind))
+    → course l (length (strung before) + n) (strung before ++ (part ++ after))
     ≡ walker_from l (led_through l (first_walker l).here before) [] (course l n part)
 
 -- a string of balanced runs is balanced

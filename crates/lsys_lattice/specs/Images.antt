@@ -12,21 +12,21 @@ use Rattle.lsys_lattice.specs.Nodes.{HasPartBelow}
 -- 1. the image
 
 -- an image and what comes after it, where k symbols stand before it
-abbrev pub and_behind : Result (List (S.Symbol ℤ)) ImageRefusal → ℕ → (ℕ → Result (List (S.Symbol ℤ)) ImageRefusal) → Result (List (S.Symbol ℤ)) ImageRefusal
-and_behind r k behind = r and_then λ ys. behind (k + length ys) and_then λ more. Ok (ys ++ more)
+abbrev pub and_after : Result (List (S.Symbol ℤ)) ImageRefusal → ℕ → (ℕ → Result (List (S.Symbol ℤ)) ImageRefusal) → Result (List (S.Symbol ℤ)) ImageRefusal
+and_after r k after = r and_then λ ys. after (k + length ys) and_then λ more. Ok (ys ++ more)
 
 abbrev pub HasBalancedImages : System → Type 0
 HasBalancedImages s = Each (λ h. S.balanced 0 h.rule.successor ≡ true) s.homomorphisms
 
 -- The image of a level has in its middle the image of the part alone.
-pub record HasPartImage (s : System) (before part behind : List LevelSymbol) (ys : List (S.Symbol ℤ)) : Type 0 where
+pub record HasPartImage (s : System) (before part after : List LevelSymbol) (ys : List (S.Symbol ℤ)) : Type 0 where
   pub left : List (S.Symbol ℤ)
   pub own : List (S.Symbol ℤ)
   pub right : List (S.Symbol ℤ)
   pub is : ys ≡ left ++ (own ++ right)
   pub of_before : image s before ≡ Ok left
   pub of_part : image s part ≡ Ok own
-  pub of_behind : image s behind ≡ Ok right
+  pub of_after : image s after ≡ Ok right
 
 -- 2. the levels below
 
@@ -35,8 +35,8 @@ abbrev pub level_below : System → ℕ → ℕ → List LevelSymbol → Result 
 level_below s t zero x = Ok x
 level_below s t (suc n) x = next_level s t x and_then λ y. level_below s (suc t) n y
 
--- Level t is `before ++ (part ++ behind)`: in the level y, n levels below, the descendants of the part stand side by side, and are balanced.
+-- Level t is `before ++ (part ++ after)`: in the level y, n levels below, the descendants of the part stand side by side, and are balanced.
 abbrev pub HasDescendants : System → ℕ → ℕ → List LevelSymbol → List LevelSymbol → List LevelSymbol → List LevelSymbol → Type 0
-HasDescendants s t zero before part behind y = (level_balanced 0 part ≡ true) × (y ≡ before ++ (part ++ behind))
-HasDescendants s t (suc n) before part behind y =
-    (z : List LevelSymbol) × (below : HasPartBelow s t before part behind z) × HasDescendants s (suc t) n below.left (cut_on below.cutting below.raw) below.right y
+HasDescendants s t zero before part after y = (level_balanced 0 part ≡ true) × (y ≡ before ++ (part ++ after))
+HasDescendants s t (suc n) before part after y =
+    (z : List LevelSymbol) × (below : HasPartBelow s t before part after z) × HasDescendants s (suc t) n below.left (cut_on below.cutting below.raw) below.right y

@@ -52,8 +52,8 @@ RestBeforeAddsNothing =
     → joined_motions l (at_rest l 0) (motion l xs) ≡ motion l xs
 
 -- nor does rest after one
-abbrev pub RestBehindAddsNothing : Type 0
-RestBehindAddsNothing =
+abbrev pub RestAfterAddsNothing : Type 0
+RestAfterAddsNothing =
     (l : Lattice) (xs : List (S.Symbol ℤ)) → balanced 0 xs ≡ true
     → joined_motions l (motion l xs) (at_rest l 0) ≡ motion l xs
 

@@ -10,7 +10,7 @@ ghost use Rattle.lsys_lattice.specs.Images.{HasBalancedImages};
 ghost use Rattle.lsys_spec.specs.Pictures.{origin};
 ghost use Rattle.lsys_lattice.specs.Motions.{motion, at_rest};
 ghost use Rattle.lsys_lattice.specs.Far.{IsInPlane};
-ghost use Rattle.lsys_lattice.specs.JoinedMotions.{FramesCarryExtents, StandsSeeExtents, MotionsAreJoined, WhatIsJoinedIsTheMotion, JoiningIsAssociative, RestBeforeAddsNothing, RestBehindAddsNothing, BranchesLeadNowhere, ModulesMoveAsTheyAct, MotionsTellBounds};
+ghost use Rattle.lsys_lattice.specs.JoinedMotions.{FramesCarryExtents, StandsSeeExtents, MotionsAreJoined, WhatIsJoinedIsTheMotion, JoiningIsAssociative, RestBeforeAddsNothing, RestAfterAddsNothing, BranchesLeadNowhere, ModulesMoveAsTheyAct, MotionsTellBounds};
 ghost use Rattle.lsys_lattice.specs.CoursesOfParts.{CoursesAreTheSameAnywhere, FirstStringsAreGoneFirst, SecondStringsAreGoneOnward, BranchesAreGoneInward, BranchesAreLeftAtTheStart, PartsLeadOneAfterTheOther, PartsAreGoneFromWhereOthersLed, StringsOfBalancedRunsAreBalanced, DescentsFindTheCourse, DescentsFindTheTurtle};
 ghost use Rattle.lsys_lattice.specs.FarModules.{SeenExtentsTellFarModules, TheFirstFarModuleIsInTheFirstFarPart, PartsStayInThePlane};
 ghost use Rattle.lsys_lattice.specs.ImagesOfParts.{ImagesStandSideBySide, PartsHaveTheirImages, BalancedPartsHaveBalancedImages, PartsHaveTheirDescendants, ModulesHaveTheirDescendants};
@@ -31,7 +31,7 @@ pub fn law_of_motions()
     ensures made { WhatIsJoinedIsTheMotion }
     ensures associative { JoiningIsAssociative }
     ensures rest_before { RestBeforeAddsNothing }
-    ensures rest_behind { RestBehindAddsNothing }
+    ensures rest_after { RestAfterAddsNothing }
     ensures branch { BranchesLeadNowhere }
     ensures module { ModulesMoveAsTheyAct }
     ensures mark { (l : Lattice) → motion l (S.Cut ∷ []) ≡ at_rest l 1 }
@@ -47,7 +47,7 @@ pub fn law_of_courses()
     ensures first { FirstStringsAreGoneFirst }
     ensures second { SecondStringsAreGoneOnward }
     ensures branch { BranchesAreGoneInward }
-    ensures behind { BranchesAreLeftAtTheStart }
+    ensures after { BranchesAreLeftAtTheStart }
 {}
 
 /// Parts side by side lead where each of them leads from where the one before it led. In one of them the turtle goes the way

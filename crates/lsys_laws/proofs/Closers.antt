@@ -178,13 +178,13 @@ get_here : {A : Type 0} (xs : List A) (k : A) (ys : List A) → slice_get (xs ++
 get_here [] k ys = refl
 get_here (x ∷ xs) k ys = get_here xs k ys
 
-get_behind : {A : Type 0} (xs : List A) (k : A) (ys : List A) (i : ℕ) → slice_get (xs ++ k ∷ ys) (length xs + 1 + i) ≡ slice_get ys i
-get_behind [] k ys i = let e : 0 + 1 + i ≡ suc i = omega arith in ap (slice_get (k ∷ ys)) e
-get_behind (x ∷ xs) k ys i = let e : suc (length xs) + 1 + i ≡ suc (length xs + 1 + i) = omega arith in ap (slice_get (x ∷ (xs ++ k ∷ ys))) e ∙ get_behind xs k ys i
+get_after : {A : Type 0} (xs : List A) (k : A) (ys : List A) (i : ℕ) → slice_get (xs ++ k ∷ ys) (length xs + 1 + i) ≡ slice_get ys i
+get_after [] k ys i = let e : 0 + 1 + i ≡ suc i = omega arith in ap (slice_get (k ∷ ys)) e
+get_after (x ∷ xs) k ys i = let e : suc (length xs) + 1 + i ≡ suc (length xs + 1 + i) = omega arith in ap (slice_get (x ∷ (xs ++ k ∷ ys))) e ∙ get_after xs k ys i
 
-drop_behind : {A : Type 0} (xs : List A) (k : A) (ys : List A) → drop (length xs + 1) (xs ++ k ∷ ys) ≡ ys
-drop_behind [] k ys = refl
-drop_behind (x ∷ xs) k ys = let e : suc (length xs) + 1 ≡ suc (length xs + 1) = omega arith in ap (λ n. drop n (x ∷ (xs ++ k ∷ ys))) e ∙ drop_behind xs k ys
+drop_after : {A : Type 0} (xs : List A) (k : A) (ys : List A) → drop (length xs + 1) (xs ++ k ∷ ys) ≡ ys
+drop_after [] k ys = refl
+drop_after (x ∷ xs) k ys = let e : suc (length xs) + 1 ≡ suc (length xs + 1) = omega arith in ap (λ n. drop n (x ∷ (xs ++ k ∷ ys))) e ∙ drop_after xs k ys
 
 map_around : (f : ℕ → LevelSymbol) (xs : List ℕ) (k : ℕ) (ys : List ℕ) → map f (xs ++ k ∷ ys) ≡ map f xs ++ f k ∷ map f ys
 map_around f [] k ys = refl
@@ -202,10 +202,10 @@ on_level symbol before k after l r h e =
     let x : List LevelSymbol = map symbol before ++ symbol k ∷ map symbol after in
     let w : map symbol (before ++ k ∷ after) ≡ x = map_around symbol before k after in
     let there : slice_get x (length before) ≡ Some (Push l) = ap (slice_get x) (sym n) ∙ get_here (map symbol before) (symbol k) (map symbol after) ∙ ap (λ s. Some s) h in
-    let behind : drop (length before + 1) x ≡ map symbol after = ap (λ n. drop (n + 1) x) (sym n) ∙ drop_behind (map symbol before) (symbol k) (map symbol after) in
+    let rest_is : drop (length before + 1) x ≡ map symbol after = ap (λ n. drop (n + 1) x) (sym n) ∙ drop_after (map symbol before) (symbol k) (map symbol after) in
     let mates : AreMates x (length before) (length before + 1 + c.place) =
-    record { opens = (l, there); closes = ap (λ y. option_map (λ n. length before + 1 + n) (close_of 0 y)) behind ∙ ap (option_map (λ n. length before + 1 + n)) c.is } in
-    (length before + 1 + c.place, get_behind before k after c.place ∙ c.there, subst (λ x. AreMates x (length before) (length before + 1 + c.place)) (sym w) mates)
+    record { opens = (l, there); closes = ap (λ y. option_map (λ n. length before + 1 + n) (close_of 0 y)) rest_is ∙ ap (option_map (λ n. length before + 1 + n)) c.is } in
+    (length before + 1 + c.place, get_after before k after c.place ∙ c.there, subst (λ x. AreMates x (length before) (length before + 1 + c.place)) (sym w) mates)
 
 pub there : (symbol : ℕ → LevelSymbol) (ks : List ℕ) (k j : ℕ) → AreMatesAmong (λ k. kind_of_symbol (symbol k)) ks k j → AreMatesThere symbol ks k j
 there symbol ks k j m = by (symbol k) refl

@@ -20,11 +20,11 @@ below_of g h = record { is = refl; balanced = h.balanced; own_kinds = h.own_kind
 
 -- 1. where a node stands is one place
 
-same_behind : (a : List ℕ) (k : ℕ) (b c d : List ℕ) → AreApart (a ++ k ∷ b) → a ++ k ∷ b ≡ c ++ k ∷ d → b ≡ d
-same_behind [] k b [] d h e = cc
-same_behind [] k b (y ∷ c) d h e = let f : b ≡ c ++ k ∷ d = cc in absurd (h.0 (subst (In k) (sym f) (in_middle k c d)))
-same_behind (x ∷ a) k b [] d h e = let f : x ≡ k = cc in absurd (h.0 (subst (λ x. In x (a ++ k ∷ b)) (sym f) (in_middle k a b)))
-same_behind (x ∷ a) k b (y ∷ c) d h e = let f : a ++ k ∷ b ≡ c ++ k ∷ d = cc in same_behind a k b c d h.1 f
+same_after : (a : List ℕ) (k : ℕ) (b c d : List ℕ) → AreApart (a ++ k ∷ b) → a ++ k ∷ b ≡ c ++ k ∷ d → b ≡ d
+same_after [] k b [] d h e = cc
+same_after [] k b (y ∷ c) d h e = let f : b ≡ c ++ k ∷ d = cc in absurd (h.0 (subst (In k) (sym f) (in_middle k c d)))
+same_after (x ∷ a) k b [] d h e = let f : x ≡ k = cc in absurd (h.0 (subst (λ x. In x (a ++ k ∷ b)) (sym f) (in_middle k a b)))
+same_after (x ∷ a) k b (y ∷ c) d h e = let f : a ++ k ∷ b ≡ c ++ k ∷ d = cc in same_after a k b c d h.1 f
 
 ended_there : (kind : ℕ → BracketKind) (n : ℕ) (v : List ℕ) (j : ℕ) → closer kind n v ≡ Some j → In j v
 ended_there kind n [] j e = cc
@@ -116,19 +116,19 @@ family_of kind own cuts ps ks b q k iq ik i =
     subst (λ q. IsFamily kind own cuts ps ks q k) (b.one_parent r.0 q k r.1 iq r.2.among ik) r.2
 
 -- what stands after a child of this node, whose children are these
-behind_child : (kind : ℕ → BracketKind) (own : ℕ → List ℕ) (cuts : ℕ → Bool) (ps ks : List ℕ) (q k : ℕ) (u v : List ℕ) (f : IsFamily kind own cuts ps ks q k) → own q ≡ u ++ k ∷ v
+after_child : (kind : ℕ → BracketKind) (own : ℕ → List ℕ) (cuts : ℕ → Bool) (ps ks : List ℕ) (q k : ℕ) (u v : List ℕ) (f : IsFamily kind own cuts ps ks q k) → own q ≡ u ++ k ∷ v
     → ks ≡ (f.before ++ u) ++ k ∷ (v ++ below kind own cuts (reached f.state (kind q) (cuts q)) f.rest)
-behind_child kind own cuts ps ks q k u v f e =
+after_child kind own cuts ps ks q k u v f e =
     let later : List ℕ = below kind own cuts (reached f.state (kind q) (cuts q)) f.rest in
     f.is ∙ ap (λ ks. f.before ++ (ks ++ later)) e ∙ ap (λ ks. f.before ++ ks) (append_assoc u (k ∷ v) later) ∙ sym (append_assoc f.before u (k ∷ (v ++ later)))
 
 -- and so what a mate of it ends
-mate_behind : (kind : ℕ → BracketKind) (own : ℕ → List ℕ) (cuts : ℕ → Bool) (ps ks : List ℕ) (q k j : ℕ) (u v : List ℕ) → AreApart ks → (f : IsFamily kind own cuts ps ks q k) → own q ≡ u ++ k ∷ v
+mate_after : (kind : ℕ → BracketKind) (own : ℕ → List ℕ) (cuts : ℕ → Bool) (ps ks : List ℕ) (q k j : ℕ) (u v : List ℕ) → AreApart ks → (f : IsFamily kind own cuts ps ks q k) → own q ≡ u ++ k ∷ v
     → AreMatesAmong kind ks k j → closer kind 0 (v ++ below kind own cuts (reached f.state (kind q) (cuts q)) f.rest) ≡ Some j
-mate_behind kind own cuts ps ks q k j u v a f e m =
+mate_after kind own cuts ps ks q k j u v a f e m =
     let later : List ℕ = v ++ below kind own cuts (reached f.state (kind q) (cuts q)) f.rest in
-    let w : ks ≡ (f.before ++ u) ++ k ∷ later = behind_child kind own cuts ps ks q k u v f e in
-    let s : later ≡ m.after = same_behind (f.before ++ u) k later m.before m.after (subst AreApart w a) (sym w ∙ m.whole) in ap (closer kind 0) s ∙ m.closes
+    let w : ks ≡ (f.before ++ u) ++ k ∷ later = after_child kind own cuts ps ks q k u v f e in
+    let s : later ≡ m.after = same_after (f.before ++ u) k later m.before m.after (subst AreApart w a) (sym w ∙ m.whole) in ap (closer kind 0) s ∙ m.closes
 
 -- 3. children of a module
 
@@ -144,13 +144,13 @@ in_modules kind kind' own own' cuts cuts' ps ps' ks ks' b b' q k j i i' plain sa
     let f' : IsFamily kind' own' cuts' ps' ks' q k = family_of kind' own' cuts' ps' ks' b' q k i' (subst (In k) (sym same) ik) there in
     let later : List ℕ = below kind own cuts (reached f.state (kind q) (cuts q)) f.rest in
     let later' : List ℕ = below kind' own' cuts' (reached f'.state (kind' q) (cuts' q)) f'.rest in
-    let e : closer kind 0 (s.after ++ later) ≡ Some j = mate_behind kind own cuts ps ks q k j s.before s.after b.apart f s.whole m in
+    let e : closer kind 0 (s.after ++ later) ≡ Some j = mate_after kind own cuts ps ks q k j s.before s.after b.apart f s.whole m in
     let n = inside kind s.before k s.after m.opens (subst (AreBalanced kind 0) s.whole (in_module kind q (own q) plain (b.own_kinds q i))) in
     let g : Some n.0 ≡ Some j = sym (n.1 kind later (λ x h. refl)) ∙ e in
     record {
       before = f'.before ++ s.before;
       after = s.after ++ later';
-      whole = behind_child kind' own' cuts' ps' ks' q k s.before s.after f' (same ∙ s.whole);
+      whole = after_child kind' own' cuts' ps' ks' q k s.before s.after f' (same ∙ s.whole);
       opens = agree k ik ∙ m.opens;
       closes = n.1 kind' later' (λ x h. agree x (subst (In x) (sym s.whole) (in_back x s.before (k ∷ s.after) (inr h)))) ∙ g;
     }
@@ -184,7 +184,7 @@ ended kind own cuts ps ks b q r k m f =
     let own_q = bracket kind q (own q) m.opens (b.own_kinds q i) in
     let here : k ≡ own_q.0 = only_one k own_q.0 (subst (In k) own_q.1 f.among) in
     let one : own q ≡ [] ++ k ∷ [] = own_q.1 ∙ ap (λ k. k ∷ []) (sym here) in
-    let rest : f.rest ≡ m.after = same_behind f.front q f.rest m.before m.after (subst AreApart f.whole b.parents_apart) (sym f.whole ∙ m.whole) in
+    let rest : f.rest ≡ m.after = same_after f.front q f.rest m.before m.after (subst AreApart f.whole b.parents_apart) (sym f.whole ∙ m.whole) in
     let e : closer kind 0 f.rest ≡ Some r = ap (closer kind 0) rest ∙ m.closes in
     let w : (p : ℕ) → In p f.rest → AreOwn kind (kind p) (own p) = λ p h. b.own_kinds p (subst (In p) (sym f.whole) (in_back p f.front (q ∷ f.rest) (inr h))) in
     let n = ends_below kind own cuts f.rest r w e in
@@ -195,7 +195,7 @@ ended kind own cuts ps ks b q r k m f =
       mates = record {
         before = f.before ++ [];
         after = [] ++ below kind own cuts (reached f.state (kind q) (cuts q)) f.rest;
-        whole = behind_child kind own cuts ps ks q k [] [] f one;
+        whole = after_child kind own cuts ps ks q k [] [] f one;
         opens = ap kind here ∙ own_q.2;
         closes = ap (λ o. closer kind 0 (below kind own cuts o f.rest)) state ∙ n.2;
       };
@@ -203,7 +203,7 @@ ended kind own cuts ps ks b q r k m f =
 
 one_mate : (kind : ℕ → BracketKind) (ks : List ℕ) (k i j : ℕ) → AreApart ks → AreMatesAmong kind ks k i → AreMatesAmong kind ks k j → i ≡ j
 one_mate kind ks k i j a m n =
-    let s : m.after ≡ n.after = same_behind m.before k m.after n.before n.after (subst AreApart m.whole a) (sym m.whole ∙ n.whole) in
+    let s : m.after ≡ n.after = same_after m.before k m.after n.before n.after (subst AreApart m.whole a) (sym m.whole ∙ n.whole) in
     let e : Some i ≡ Some j = sym m.closes ∙ ap (closer kind 0) s ∙ n.closes in cc
 
 in_brackets : (kind kind' : ℕ → BracketKind) (own own' : ℕ → List ℕ) (cuts cuts' : ℕ → Bool) (ps ps' ks ks' : List ℕ) → IsBelow kind own cuts ps ks → IsBelow kind' own' cuts' ps' ks'
@@ -260,7 +260,7 @@ mates_from g h k j m = by (family g.kind g.own g.cuts g.nodes (next_nodes g) (be
         to Neither e =
             let s : IsSplit k (own q) = split k (own q) f.among in
             let later : List ℕ = below kind own cuts (reached f.state (kind q) (cuts q)) f.rest in
-            let c : closer kind 0 (s.after ++ later) ≡ Some j = mate_behind kind own cuts ps ks q k j s.before s.after b.apart f s.whole m in
+            let c : closer kind 0 (s.after ++ later) ≡ Some j = mate_after kind own cuts ps ks q k j s.before s.after b.apart f s.whole m in
             let n = inside kind s.before k s.after m.opens (subst (AreBalanced kind 0) s.whole (in_module kind q (own q) e (b.own_kinds q i))) in
             let c' : Some n.0 ≡ Some j = sym (n.1 kind later (λ x h. refl)) ∙ c in
             let ends : closer kind 0 (s.after ++ []) ≡ Some j = n.1 kind [] (λ x h. refl) ∙ c' in

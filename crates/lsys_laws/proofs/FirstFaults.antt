@@ -13,14 +13,14 @@ later : (bound : List ℤ) (t : Tree) (ts : List Tree) (e : Arith) → HasValue 
 later bound t ts e v f = record {
   before = t ∷ f.before;
   faulty = f.faulty;
-  behind = f.behind;
+  after = f.after;
   all = ap (λ l. t ∷ l) f.all;
   fine = (v, f.fine);
   fails = f.fails;
 }
 
 at_first : (bound : List ℤ) (t : Tree) (ts : List Tree) (e : Arith) → value t bound ≡ Err e → IsFirstFault bound (t ∷ ts) e
-at_first bound t ts e h = record { before = []; faulty = t; behind = ts; all = refl; fine = tt; fails = h }
+at_first bound t ts e h = record { before = []; faulty = t; after = ts; all = refl; fine = tt; fails = h }
 
 -- the fault of a step, or of what follows it
 step_fault : {A B : Type 0} (r : Result A Arith) (f : A → Result B Arith) (e : Arith) → (r and_then f) ≡ Err e → (r ≡ Err e) ⊎ ((x : A) × (r ≡ Ok x) × (f x ≡ Err e))
@@ -67,7 +67,7 @@ params_fail (u ∷ front) back t bound e v h =
 pub params_first : (ts : List Tree) (bound : List ℤ) (e : Arith) → (filled_params ts bound ≡ Err e) ↔ IsFirstFault bound ts e
 params_first ts bound e = (
   params_fault ts bound e,
-  λ f. ap (λ l. filled_params l bound) f.all ∙ params_fail f.before f.behind f.faulty bound e f.fine f.fails,
+  λ f. ap (λ l. filled_params l bound) f.all ∙ params_fail f.before f.after f.faulty bound e f.fine f.fails,
 )
 
 -- 2. a successor
@@ -97,8 +97,8 @@ among_first : (bound : List ℤ) (ts us : List Tree) (e : Arith) → IsFirstFaul
 among_first bound ts us e f = record {
   before = f.before;
   faulty = f.faulty;
-  behind = f.behind ++ us;
-  all = ap (λ l. l ++ us) f.all ∙ append_assoc f.before (f.faulty ∷ f.behind) us;
+  after = f.after ++ us;
+  all = ap (λ l. l ++ us) f.all ∙ append_assoc f.before (f.faulty ∷ f.after) us;
   fine = f.fine;
   fails = f.fails;
 }
@@ -107,8 +107,8 @@ among_later : (bound : List ℤ) (ts us : List Tree) (e : Arith) → Each (HasVa
 among_later bound ts us e h f = record {
   before = ts ++ f.before;
   faulty = f.faulty;
-  behind = f.behind;
-  all = ap (λ l. ts ++ l) f.all ∙ sym (append_assoc ts f.before (f.faulty ∷ f.behind));
+  after = f.after;
+  all = ap (λ l. ts ++ l) f.all ∙ sym (append_assoc ts f.before (f.faulty ∷ f.after));
   fine = each_append (HasValue bound) ts f.before h f.fine;
   fails = f.fails;
 }
@@ -142,10 +142,10 @@ one_fault : {A : Type 0} (r : Result A Arith) (e k : Arith) → r ≡ Err e → 
 one_fault r e k h g = cc
 
 -- after trees that have values a fault is one of the rest
-behind_values : (us ts : List Tree) (bound : List ℤ) (e : Arith) → Each (HasValue bound) ts → filled_params (ts ++ us) bound ≡ Err e → filled_params us bound ≡ Err e
-behind_values us [] bound e v h = h
-behind_values us (t ∷ ts) bound e v h =
-    behind_values us ts bound e v.1
+after_values : (us ts : List Tree) (bound : List ℤ) (e : Arith) → Each (HasValue bound) ts → filled_params (ts ++ us) bound ≡ Err e → filled_params us bound ≡ Err e
+after_values us [] bound e v h = h
+after_values us (t ∷ ts) bound e v h =
+    after_values us ts bound e v.1
     (inner_fault (filled_params (ts ++ us) bound) (λ zs. v.0.0 ∷ zs) e (ap (λ r. r and_then λ z. filled_params (ts ++ us) bound and_then λ zs. made (z ∷ zs)) (sym v.0.1) ∙ h))
 
 -- so what all parameters tell, the successor tells
@@ -164,7 +164,7 @@ successor_fails (S.Module n ts ∷ xs) bound e h = by (split bound ts) (successo
     by (all_fine v) ih =
         let zs = params_all ts bound v in
         fault_later (filled_params ts bound) (λ zs. filled xs bound and_then λ ys. made (S.Module n zs ∷ ys)) e zs.0 zs.1
-        (fault_first (filled xs bound) (λ ys. made (S.Module n zs.0 ∷ ys)) e (ih (behind_values (all_params xs) ts bound e v h)))
+        (fault_first (filled xs bound) (λ ys. made (S.Module n zs.0 ∷ ys)) e (ih (after_values (all_params xs) ts bound e v h)))
 
 pub successor_first : (xs : List (S.Symbol Tree)) (bound : List ℤ) (e : Arith) → (filled xs bound ≡ Err e) ↔ IsFirstFault bound (all_params xs) e
 successor_first xs bound e = (

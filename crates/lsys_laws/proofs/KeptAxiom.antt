@@ -151,11 +151,11 @@ lighter_gap false b true true = record { before = λ r t h. h }
 lighter_gap false b true false = record { before = λ r t h. h }
 lighter_gap false b false d = record { before = λ r t h. h }
 
-lighter_behind : (s u : Symbol Signed) (xs ys : List (Symbol Signed))
+lighter_after : (s u : Symbol Signed) (xs ys : List (Symbol Signed))
     → Lighter (symbol_pieces signed_pieces s) (symbol_pieces signed_pieces u)
     → Lighter (string_pieces signed_pieces xs) (string_pieces signed_pieces ys)
     → Lighter (string_pieces signed_pieces (s ∷ xs)) (string_pieces signed_pieces (u ∷ ys))
-lighter_behind s u xs ys f g =
+lighter_after s u xs ys f g =
     lighter_append (symbol_pieces signed_pieces s) (symbol_pieces signed_pieces u) _ _ f
     (lighter_append (gap (ends_in_name s) (begins_with_letter xs)) (gap (ends_in_name u) (begins_with_letter ys)) _ _
     (lighter_gap (ends_in_name s) (begins_with_letter xs) (ends_in_name u) (begins_with_letter ys)) g)
@@ -163,11 +163,11 @@ lighter_behind s u xs ys f g =
 lighter_string : (xs : List (Symbol Signed)) → Lighter (string_pieces signed_pieces xs) (string_pieces signed_pieces (written (values_of xs)))
 lighter_string [] = lighter_refl []
 lighter_string (Module n zs ∷ xs) =
-    lighter_behind (Module n zs) (Module n (map signed_of (map signed_value zs))) xs (written (values_of xs))
+    lighter_after (Module n zs) (Module n (map signed_of (map signed_value zs))) xs (written (values_of xs))
     (lighter_cons (note a_symbol) _ _ (lighter_cons (token (name_kind n)) _ _ (lighter_params zs))) (lighter_string xs)
-lighter_string (Push ∷ xs) = lighter_behind Push Push xs (written (values_of xs)) (lighter_refl _) (lighter_string xs)
-lighter_string (Pop ∷ xs) = lighter_behind Pop Pop xs (written (values_of xs)) (lighter_refl _) (lighter_string xs)
-lighter_string (Cut ∷ xs) = lighter_behind Cut Cut xs (written (values_of xs)) (lighter_refl _) (lighter_string xs)
+lighter_string (Push ∷ xs) = lighter_after Push Push xs (written (values_of xs)) (lighter_refl _) (lighter_string xs)
+lighter_string (Pop ∷ xs) = lighter_after Pop Pop xs (written (values_of xs)) (lighter_refl _) (lighter_string xs)
+lighter_string (Cut ∷ xs) = lighter_after Cut Cut xs (written (values_of xs)) (lighter_refl _) (lighter_string xs)
 
 light_nil : Light [] []
 light_nil c d m n h e = refl

@@ -13,7 +13,7 @@ use Rattle.lsys_spec.specs.Edits.{unknown_name, duplicate, mixed, wrong_label, m
 use Rattle.lsys_laws.proofs.Unrefused.{both_none, if_none, at_none, few, none_passes, place_none}
 use Rattle.lsys_spec.proofs.Tests.{not_false, neither}
 use Rattle.lsys_spec.proofs.Eachs.{each_more, each_front, each_back}
-use Rattle.lsys_laws.proofs.Aparts.{bytes_eq_true, bytes_eq_sym, apart_before, apart_behind, apart_front, apart_swap, apart_insert, apart_unmapped, each_mapped, map_append, map_swap, Placed, in_place, at_end, placed_later, each_placed}
+use Rattle.lsys_laws.proofs.Aparts.{bytes_eq_true, bytes_eq_sym, apart_before, apart_after, apart_front, apart_swap, apart_insert, apart_unmapped, each_mapped, map_append, map_swap, Placed, in_place, at_end, placed_later, each_placed}
 use Rattle.lsys_laws.proofs.Tabled.{tables_swap, tables_more}
 use Rattle.lsys_laws.proofs.Parts.{IsShort, OfRules, OfSchedule, Parts, OfOwn}
 use Rattle.lsys_syntax.proofs.Wide.{is-small}
@@ -110,11 +110,11 @@ groups_put p old new (in_place xs q ys e f k) m l h =
     let before : Each (λ x. clash x p ≡ false) xs =
     each_zip (λ x. same_label x q ≡ false) (Unmixed p) (λ x. clash x p ≡ false) xs (λ x a b. calm_where (same_label x p) (clash x p) (subst (λ y. bytes_eq x.label y ≡ false) s a) b)
     (apart_before same_label xs ys q ll) (each_front (Unmixed p) xs (q ∷ ys) mm) in
-    let behind : Each (λ x. clash p x ≡ false) ys =
+    let after : Each (λ x. clash p x ≡ false) ys =
     each_zip (λ x. same_label q x ≡ false) (Unmixed p) (λ x. clash p x ≡ false) ys
     (λ x a b. clash_sym p x ∙ calm_where (same_label x p) (clash x p) (bytes_eq_sym x.label p.label ∙ subst (λ y. bytes_eq y x.label ≡ false) s a) b)
-    (apart_behind same_label xs ys q ll) (each_back (Unmixed p) xs (q ∷ ys) mm).1 in
-    subst (Apart clash) (sym f) (apart_swap clash xs ys q p (subst (Apart clash) e h) before behind)
+    (apart_after same_label xs ys q ll) (each_back (Unmixed p) xs (q ∷ ys) mm).1 in
+    subst (Apart clash) (sym f) (apart_swap clash xs ys q p (subst (Apart clash) e h) before after)
 groups_put p old new (at_end e k) m l h =
     let before : Each (λ x. clash x p ≡ false) old =
     each_zip (λ x. same_label x p ≡ false) (Unmixed p) (λ x. clash x p ≡ false) old (λ x a b. calm_where (same_label x p) (clash x p) a b) k m in

@@ -26,8 +26,8 @@ here : (c : Counts) (n : ℕ) (t : Piece) (ps : List Piece) (P : ℕ → Type 0)
 here c n t ps P p h e = let f = some_place n p e in (0, sym f ∙ omega arith, (h, λ j l q. no_earlier P j l q))
 
 -- only the pieces after the first token pass
-behind : (P Q : ℕ → Type 0) (n p : ℕ) → (P 0 → ⊥) → ((j : ℕ) → P (suc j) → Q j) → ((j : ℕ) → Q j → P (suc j)) → (k : ℕ) × (p ≡ n + 1 + k) × IsLeast Q k → (k : ℕ) × (p ≡ n + k) × IsLeast P k
-behind P Q n p z f g h = (suc h.0, h.1 ∙ omega arith, (g h.0 h.2.0, by_case))
+after : (P Q : ℕ → Type 0) (n p : ℕ) → (P 0 → ⊥) → ((j : ℕ) → P (suc j) → Q j) → ((j : ℕ) → Q j → P (suc j)) → (k : ℕ) × (p ≡ n + 1 + k) × IsLeast Q k → (k : ℕ) × (p ≡ n + k) × IsLeast P k
+after P Q n p z f g h = (suc h.0, h.1 ∙ omega arith, (g h.0 h.2.0, by_case))
   where
     by_case : (j : ℕ) → j < suc h.0 → P j → ⊥
     by_case zero l q = z q
@@ -43,7 +43,7 @@ place_told c n (token t ∷ ps) p h = by_test (passes_limit (count_token c)) ref
         → (if b then Some n else many_place (count_token c) (n + 1) ps) ≡ Some p → (k : ℕ) × (p ≡ n + k) × IsLeast (PassesAt c (token t ∷ ps)) k
     by_test true e ih g = here c n (token t) ps (PassesAt c (token t ∷ ps)) p (count_token c, refl, e) g
     by_test false e ih g =
-        behind (PassesAt c (token t ∷ ps)) (PassesAt (count_token c) ps) n p
+        after (PassesAt c (token t ∷ ps)) (PassesAt (count_token c) ps) n p
         (λ q. true≢false (sym q.2 ∙ sym (ap passes_limit (some_counts (count_token c) q.0 q.1)) ∙ e)) (λ j q. q) (λ j q. q) (ih g)
 
 -- none is told where none passes

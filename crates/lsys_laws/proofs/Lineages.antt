@@ -51,5 +51,5 @@ place_is x h p s l g e =
     f.1 ∙ ap (λ q. Some q) (distinct_apart x h f.0 p t.0 s t.1 g (t.2 ∙ sym e))
 
 -- the lineage of the first symbol stands nowhere else
-pub place_behind : (u : LevelSymbol) (x : List LevelSymbol) → Distinct (u ∷ x) → place_of (lineage u) x ≡ None
-place_behind u x h = place_none x (lineage u) (λ p s g e. let n : zero ≡ suc p = distinct_apart (u ∷ x) h zero (suc p) u s refl g (sym e) in cc)
+pub place_after : (u : LevelSymbol) (x : List LevelSymbol) → Distinct (u ∷ x) → place_of (lineage u) x ≡ None
+place_after u x h = place_none x (lineage u) (λ p s g e. let n : zero ≡ suc p = distinct_apart (u ∷ x) h zero (suc p) u s refl g (sym e) in cc)

@@ -12,7 +12,7 @@ use Rattle.lsys_spec.specs.Cuts.{Distinct}
 use Rattle.lsys_spec.proofs.Equal.{same_lineage_true}
 use Rattle.lsys_spec.proofs.Tests.{and_true}
 use Rattle.lsys_laws.specs.KeptQuestions.{where_grouped, questions_by_place, level_questions, kept_from, kept_at, present}
-use Rattle.lsys_laws.proofs.Lineages.{place_behind}
+use Rattle.lsys_laws.proofs.Lineages.{place_after}
 
 and_false : (a b : Bool) → b ≡ false → a && b ≡ false
 and_false true b e = e
@@ -49,7 +49,7 @@ elsewhere (b ∷ bs) q qs t l f = ap (λ c. cond c (Some q) (question_at t l qs)
 
 -- a lineage that stands first stands nowhere else
 gone : (u : LevelSymbol) (x : List LevelSymbol) (l : List ℕ) → Distinct (u ∷ x) → same_lineage l (lineage u) ≡ true → place_of l x ≡ None
-gone u x l h e = ap (λ l. place_of l x) (same_lineage_true l (lineage u) e) ∙ place_behind u x h
+gone u x l h e = ap (λ l. place_of l x) (same_lineage_true l (lineage u) e) ∙ place_after u x h
 
 -- a symbol without a question, and with one
 past : (u : LevelSymbol) (rest : List LevelSymbol) (l : List ℕ) (os : List (Option Question)) (r : Option Question) → Distinct (u ∷ rest) → r ≡ kept_at os (place_of l rest)

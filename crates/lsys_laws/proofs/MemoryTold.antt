@@ -50,8 +50,8 @@ other_told limit s line w h = no_front (codes "refused ") (reply limit s line).t
 
 -- 2. lack of memory has a text of its own
 
-abbrev word_behind : List ℕ → List ℕ
-word_behind text = drop 8 text
+abbrev word_after : List ℕ → List ℕ
+word_after text = drop 8 text
 
 other_word : (why : List ℕ) (more : List ℕ) → OtherWord why → begins (codes "memory") ((why ++ line_feed) ++ more) ≡ false
 other_word why more o = ap (begins (codes "memory")) (append_assoc why line_feed more) ∙ o more
@@ -60,7 +60,7 @@ other_word why more o = ap (begins (codes "memory")) (append_assoc why line_feed
 differ : (s : System) (r : Reply) (x y : List ℕ) → Telling r → (r.ends ≡ true → y ≡ []) → (refused_memory s).text ++ x ≡ r.text ++ y → ⊥
 differ s r x y (refuses why h e o) f k =
     let t : (refused_memory s).text ++ x ≡ (codes "refused " ++ why ++ line_feed) ++ y = k ∙ ap (λ l. l ++ y) e in
-    true≢false (ap (λ l. begins (codes "memory") (word_behind l)) t ∙ other_word why y o)
+    true≢false (ap (λ l. begins (codes "memory") (word_after l)) t ∙ other_word why y o)
 differ s r x y (answers h g) f k = true≢false (ap (begins (codes "refused ")) k ∙ g y)
 differ s r x y (finishes h e g) f k =
     let t : (refused_memory s).text ++ x ≡ [] = k ∙ ap (λ l. l ++ y) e ∙ f g in true≢false (ap (begins (codes "refused ")) t)
@@ -74,31 +74,31 @@ memory_apart limit s line w h = by (reply_tells limit s line w)
 
 -- 3. all replies
 
-abbrev behind : Bool → List Reply → List Reply
-behind ends rs = elim ends [ true ↦ [] | false ↦ rs ]
+abbrev after : Bool → List Reply → List Reply
+after ends rs = elim ends [ true ↦ [] | false ↦ rs ]
 
 split : (r : Reply) (rs : List Reply) → output_text (r ∷ rs) ≡ r.text ++ output_text rs
 split r rs = flat_map-cons (λ q. q.text) r rs
 
 -- the same reply in both
 by_end : (ends : Bool) (r : Reply) (xs ys : List Reply) → (output_text xs ≡ output_text ys → xs ≡ ys)
-    → r.text ++ output_text (behind ends xs) ≡ r.text ++ output_text (behind ends ys) → (r ∷ behind ends xs) ≡ (r ∷ behind ends ys)
+    → r.text ++ output_text (after ends xs) ≡ r.text ++ output_text (after ends ys) → (r ∷ after ends xs) ≡ (r ∷ after ends ys)
 by_end true r xs ys f h = refl
 by_end false r xs ys f h = ap (λ l. r ∷ l) (f (append_cancel_left r.text (output_text xs) (output_text ys) h))
 
 same_reply : (r : Reply) (f g : System → List Reply) → (output_text (f r.next) ≡ output_text (g r.next) → f r.next ≡ g r.next)
     → output_text (reply_followed r f) ≡ output_text (reply_followed r g) → reply_followed r f ≡ reply_followed r g
-same_reply r f g k h = by_end r.ends r (f r.next) (g r.next) k (sym (split r (behind r.ends (f r.next))) ∙ h ∙ split r (behind r.ends (g r.next)))
+same_reply r f g k h = by_end r.ends r (f r.next) (g r.next) k (sym (split r (after r.ends (f r.next))) ∙ h ∙ split r (after r.ends (g r.next)))
 
-none_behind : (ends : Bool) (rs : List Reply) → ends ≡ true → output_text (behind ends rs) ≡ []
-none_behind true rs h = refl
-none_behind false rs h = cc
+none_after : (ends : Bool) (rs : List Reply) → ends ≡ true → output_text (after ends rs) ≡ []
+none_after true rs h = refl
+none_after false rs h = cc
 
 other_reply : (s : System) (r : Reply) (f g : System → List Reply) → Told true r → output_text (reply_followed (refused_memory s) f) ≡ output_text (reply_followed r g) → ⊥
 other_reply s r f g (silent m n e) h = true≢false m
 other_reply s r f g (tells t) h =
-    differ s r (output_text (f s)) (output_text (behind r.ends (g r.next))) t (none_behind r.ends (g r.next))
-    (sym (split (refused_memory s) (f s)) ∙ h ∙ split r (behind r.ends (g r.next)))
+    differ s r (output_text (f s)) (output_text (after r.ends (g r.next))) t (none_after r.ends (g r.next))
+    (sym (split (refused_memory s) (f s)) ∙ h ∙ split r (after r.ends (g r.next)))
 
 one_step : (may m k : Bool) (s : System) (r : Reply) (f g : System → List Reply) → Told may r → IsWell s → IsWell r.next
     → ((t : System) → IsWell t → output_text (f t) ≡ output_text (g t) → f t ≡ g t)

@@ -2,7 +2,7 @@
 use Rattle.std.proofs.Common.{◌≡◌, ◌⊎◌, inl, inr, ℕ, zero, suc, ◌+◌, List, [], ◌∷◌, ◌++◌, append_assoc, append-nil, take, drop, Some, refl, ap, sym, ◌∙◌, subst, arith}
 use Rattle.std.specs.Prelude.{slice_get}
 use Rattle.lsys_spec.specs.Rows.{first_in, last_in, mirrored, flat, In, AreApart}
-use Rattle.lsys_laws.specs.Seams.{right_of, left_of, node_before, AreTouched, AreTurned, IsRightSeam, child_of_touched, before_touched, up_to_turned, IsLeftSeam, kid_of_touched, behind_touched, from_turned}
+use Rattle.lsys_laws.specs.Seams.{right_of, left_of, node_before, AreTouched, AreTurned, IsRightSeam, child_of_touched, before_touched, up_to_turned, IsLeftSeam, kid_of_touched, after_touched, from_turned}
 use Rattle.lsys_laws.proofs.Joints.{in_front, in_back, flat_append, last_push, next_there, seamed}
 
 -- 1. lists from the right to the left
@@ -74,7 +74,7 @@ last_child g xs = ap (λ zs. last_in (flat (turned g) zs)) (sym (mirrored_twice 
 as_left : (T S : List ℕ) (g : ℕ → List ℕ) (ys : List ℕ) (k : ℕ) → IsRightSeam T S (turned g) (mirrored ys) k → IsLeftSeam T S g ys k
 as_left T S g ys k (child_of_touched q i t j) = kid_of_touched q (of_mirror q ys i) t (of_mirror k (g q) j)
 as_left T S g ys k (before_touched q before after w t e) =
-    behind_touched q (mirrored after) (mirrored before) (sym (mirrored_twice ys) ∙ ap mirrored w ∙ mirrored_around before q after) t (sym (last_child g before) ∙ e)
+    after_touched q (mirrored after) (mirrored before) (sym (mirrored_twice ys) ∙ ap mirrored w ∙ mirrored_around before q after) t (sym (last_child g before) ∙ e)
 as_left T S g ys k (up_to_turned q before after w s e) =
     from_turned q (mirrored after) (mirrored before) (sym (mirrored_twice ys) ∙ ap mirrored w ∙ mirrored_around before q after) s
     (sym (last_child g (before ++ q ∷ []) ∙ ap (λ zs. first_in (flat g zs)) (mirrored_append before (q ∷ []))) ∙ e)
@@ -121,14 +121,14 @@ last_before (x ∷ ks) (suc zero) k h = refl
 last_before (x ∷ []) (suc (suc p)) k h = cc
 last_before (x ∷ y ∷ ks) (suc (suc p)) k h = last_before (y ∷ ks) (suc p) k h
 
-first_behind : (ks : List ℕ) (p : ℕ) → first_in (drop (suc p) ks) ≡ slice_get ks (p + 1)
-first_behind [] p = refl
-first_behind (x ∷ ks) zero = first_there ks
-first_behind (x ∷ ks) (suc p) = let e : suc p + 1 ≡ suc (p + 1) = omega arith in first_behind ks p ∙ ap (slice_get (x ∷ ks)) (sym e)
+first_after : (ks : List ℕ) (p : ℕ) → first_in (drop (suc p) ks) ≡ slice_get ks (p + 1)
+first_after [] p = refl
+first_after (x ∷ ks) zero = first_there ks
+first_after (x ∷ ks) (suc p) = let e : suc p + 1 ≡ suc (p + 1) = omega arith in first_after ks p ∙ ap (slice_get (x ∷ ks)) (sym e)
 
 pub right_neighbour : (ks : List ℕ) (p k : ℕ) → AreApart ks → slice_get ks p ≡ Some k → right_of k ks ≡ slice_get ks (p + 1)
 right_neighbour ks p k a h =
-    let w = around_place ks p k h in ap (right_of k) w ∙ next_there k (take p ks) (drop (suc p) ks) (subst AreApart w a) ∙ first_behind ks p
+    let w = around_place ks p k h in ap (right_of k) w ∙ next_there k (take p ks) (drop (suc p) ks) (subst AreApart w a) ∙ first_after ks p
 
 pub left_neighbour : (ks : List ℕ) (p k : ℕ) → AreApart ks → slice_get ks p ≡ Some k → left_of k ks ≡ node_before ks p
 left_neighbour ks p k a h =

@@ -4,7 +4,7 @@ use Rattle.std.specs.Prelude.{◌↔◌, slice_get, option_map}
 use Rattle.lsys_spec.specs.Rows.{In}
 use Rattle.lsys_spec.specs.Systems.{System}
 use Rattle.lsys_spec.specs.Levels.{LevelSymbol, Push, Pop, Module, lineage}
-use Rattle.lsys_spec.specs.Standings.{Standing, standing, standing_of, place_of, before_place, mate_at, mate_ahead, mate_behind, Settled, is_disturbed}
+use Rattle.lsys_spec.specs.Standings.{Standing, standing, standing_of, place_of, before_place, mate_at, mate_ahead, mate_after, Settled, is_disturbed}
 use Rattle.lsys_spec.proofs.Around.{ends_at, items_push, way_pop}
 use Rattle.lsys_spec.proofs.Standings.{place_is, place_told}
 use Rattle.lsys_laws.specs.Seams.{node_before}
@@ -91,7 +91,7 @@ mate_told name s h p k there = by (s.symbol k) refl
         let o = m.2.opens in
         let n : IsNodeOf s m.0 (Push o.0) = node_of s m.0 (Push o.0) o.1 in
         let i : In n.node s.nodes = got_in s.nodes m.0 n.node n.there in
-        found (Pop l) n.node o.0 e (ap mate_behind (way_pop x p m.0 o.0 l m.2 o.1 here)) (h.closes m.0 p n.node k m.2 n.there there)
+        found (Pop l) n.node o.0 e (ap mate_after (way_pop x p m.0 o.0 l m.2 o.1 here)) (h.closes m.0 p n.node k m.2 n.there there)
         (sym (h.names n.node i) ∙ ap lineage n.is) i
 
 -- 3. the same nodes

@@ -5,7 +5,7 @@ use Rattle.lsys_syntax.specs.Limits.{nesting_bound}
 use Rattle.lsys_syntax.specs.Tokens.{Kind, Word}
 use Rattle.lsys_syntax.specs.Pieces.{kinds_of}
 use Rattle.lsys_syntax.specs.Strings.{Symbol, Signed, signed_pieces, string_pieces}
-use Rattle.lsys_syntax.specs.Commands.{Command, set_axiom, put_production, drop_rule, set_ignored, set_schedule, set_seed, set_depth, set_lattice, put_homomorphism, print_string, print_segments, print_svg, print_system, quit, to_ignore, to_consider, set_version, set_own, drop_own, set_numbering, string_behind, command_pieces, IsCommand}
+use Rattle.lsys_syntax.specs.Commands.{Command, set_axiom, put_production, drop_rule, set_ignored, set_schedule, set_seed, set_depth, set_lattice, put_homomorphism, print_string, print_segments, print_svg, print_system, quit, to_ignore, to_consider, set_version, set_own, drop_own, set_numbering, string_after, command_pieces, IsCommand}
 use Rattle.lsys_syntax.specs.LineMachine.{sentence, stops, too_deep, verdict}
 use Rattle.lsys_syntax.specs.Sentences.{AreTokens, Begins, BeginsDeep}
 use Rattle.lsys_syntax.proofs.LineComplete.{command-sentence}
@@ -21,10 +21,10 @@ abbrev is_axiom : List Kind → Bool
 is_axiom (Word w ∷ ks) = bytes_eq w (codes "axiom")
 is_axiom ks = false
 
-behind_word : (k l : Kind) (ks ls : List Kind) → (k ∷ ks) ≡ (l ∷ ls) → ks ≡ ls
-behind_word k l ks ls e = cc
+after_word : (k l : Kind) (ks ls : List Kind) → (k ∷ ks) ≡ (l ∷ ls) → ks ≡ ls
+after_word k l ks ls e = cc
 
-string_kinds : (xs : List (Symbol Signed)) → kinds_of (string_behind xs) ≡ kinds_of (string_pieces signed_pieces xs)
+string_kinds : (xs : List (Symbol Signed)) → kinds_of (string_after xs) ≡ kinds_of (string_pieces signed_pieces xs)
 string_kinds [] = refl
 string_kinds (x ∷ xs) = refl
 
@@ -36,7 +36,7 @@ no_other : (c : Command) (ks : List Kind) → is_axiom (kinds_of (command_pieces
 no_other c ks h e = absurd (true≢false (sym (ap is_axiom e) ∙ h))
 
 axiom_only : (c : Command) (ks : List Kind) → kinds_of (command_pieces c) ≡ axiom_line ks → IsAxiom c ks
-axiom_only (set_axiom xs) ks e = (xs, refl, sym (string_kinds xs) ∙ behind_word (Word (codes "axiom")) (Word (codes "axiom")) (kinds_of (string_behind xs)) ks e)
+axiom_only (set_axiom xs) ks e = (xs, refl, sym (string_kinds xs) ∙ after_word (Word (codes "axiom")) (Word (codes "axiom")) (kinds_of (string_after xs)) ks e)
 axiom_only (put_production t l r) ks e = no_other (put_production t l r) ks refl e
 axiom_only (drop_rule l) ks e = no_other (drop_rule l) ks refl e
 axiom_only (set_ignored ns) ks e = no_other (set_ignored ns) ks refl e

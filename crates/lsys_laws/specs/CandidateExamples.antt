@@ -22,19 +22,19 @@ abbrev start : List ℕ
 start = codes "axiom ABCDAE\nproduction p: A > B => X\ndepth 1\n"
 
 -- of each question after the edit, whether it is a candidate
-abbrev candidates_behind : List ℕ → List Bool
-candidates_behind edit = map (may_differ (after start) (after (start ++ edit)) (levels_after start) (levels_after (start ++ edit))) (questions_after (start ++ edit))
+abbrev candidates_after : List ℕ → List Bool
+candidates_after edit = map (may_differ (after start) (after (start ++ edit)) (levels_after start) (levels_after (start ++ edit))) (questions_after (start ++ edit))
 
 -- two letters A ask, and each reads what is on its right
 pub two_questions : map (λ q. length q.trace) (questions_after start) ≡ 1 ∷ 1 ∷ []
 two_questions = refl
 
 -- the first A reads B, and both stand as before, so it is no candidate; what the second one reads does not
-pub untouched_reader : candidates_behind (codes "axiom ABCDAF\n") ≡ false ∷ true ∷ []
+pub untouched_reader : candidates_after (codes "axiom ABCDAF\n") ≡ false ∷ true ∷ []
 untouched_reader = refl
 
 -- a name that is ignored touches each question of a rule with a context, and needs none of them
-pub ignored_touches : candidates_behind (codes "ignore Z\n") ≡ true ∷ true ∷ []
+pub ignored_touches : candidates_after (codes "ignore Z\n") ≡ true ∷ true ∷ []
 ignored_touches = refl
 
 pub ignored_needs_none : map (is_needed (questions_after start)) (questions_after (start ++ codes "ignore Z\n")) ≡ false ∷ false ∷ []
@@ -84,10 +84,10 @@ pub visits_of_long_readers :
 visits_of_long_readers = refl
 
 -- the last symbol that was read has another neighbour: a module that was compared, one that was ignored, a bracket on the way out
-pub touched_behind :
+pub touched_after :
     map (λ (p : List ℕ × List ℕ). candidates_from p.0 p.1)
     ((codes "axiom ABC\nproduction p: A > B => X\ndepth 1", codes "axiom ABD\nproduction p: A > B => X\ndepth 1")
     ∷ (codes "axiom AZ\nproduction p: A > B => X\nignore Z\ndepth 1", codes "axiom AZQ\nproduction p: A > B => X\nignore Z\ndepth 1")
     ∷ (codes "axiom E[A]\nproduction e: E =>\nproduction p: B < A => A\ndepth 2", codes "axiom E[A]\nproduction e: E => Q\nproduction p: B < A => A\ndepth 2") ∷ [])
     ≡ (true ∷ []) ∷ (true ∷ []) ∷ (true ∷ false ∷ true ∷ []) ∷ []
-touched_behind = refl
+touched_after = refl

@@ -39,8 +39,8 @@ abbrev first_after : List ℕ → List LevelSymbol
 first_after script = first_level (last_system (out (reply 100000) script none))
 
 -- what is cut off has its places too
-pub lineages_behind_cuts : map lineage (first_after (codes "axiom [A%[B]]C")) ≡ (0 ∷ []) ∷ (1 ∷ []) ∷ (6 ∷ []) ∷ (7 ∷ []) ∷ []
-lineages_behind_cuts = refl
+pub lineages_after_cuts : map lineage (first_after (codes "axiom [A%[B]]C")) ≡ (0 ∷ []) ∷ (1 ∷ []) ∷ (6 ∷ []) ∷ (7 ∷ []) ∷ []
+lineages_after_cuts = refl
 
 -- a bracket whose mate is another one stands otherwise
 pub mates_before :

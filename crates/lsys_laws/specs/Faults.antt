@@ -11,8 +11,8 @@ HasValue bound t = (z : ℤ) × (value t bound ≡ Ok z)
 pub record IsFirstFault (bound : List ℤ) (trees : List Tree) (fault : Arith) : Type 0 where
   pub before : List Tree
   pub faulty : Tree
-  pub behind : List Tree
-  pub all : trees ≡ before ++ faulty ∷ behind
+  pub after : List Tree
+  pub all : trees ≡ before ++ faulty ∷ after
   pub fine : Each (HasValue bound) before
   pub fails : value faulty bound ≡ Err fault
 

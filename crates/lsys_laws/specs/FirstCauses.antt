@@ -11,11 +11,11 @@ run = run_with (reply 100000)
 
 -- of 1,024 ignored modules the trace is too long, whatever is after them: this comes before a fault of the condition, and
 -- before it is known that the context isn't there
-abbrev behind_ignored : List ℕ → List ℕ
-behind_ignored rule = run (codes "axiom A" ++ (replicate 1024 66 ++ (codes "C\nignore B\nproduction p: " ++ (rule ++ codes "\ndepth 1\n"))))
+abbrev after_ignored : List ℕ → List ℕ
+after_ignored rule = run (codes "axiom A" ++ (replicate 1024 66 ++ (codes "C\nignore B\nproduction p: " ++ (rule ++ codes "\ndepth 1\n"))))
 
 pub trace_before_fault :
-    map behind_ignored (codes "A > C : 1/0 => X" ∷ codes "A > D => X" ∷ [])
+    map after_ignored (codes "A > C : 1/0 => X" ∷ codes "A > D => X" ∷ [])
     ≡ codes "ok 0/0\nok 0/0\nok 0/0\nrefused fault too-far level 0 module 1\n" ∷ codes "ok 0/0\nok 0/0\nok 0/0\nrefused fault too-far level 0 module 1\n" ∷ []
 unfolding digits
 trace_before_fault = refl

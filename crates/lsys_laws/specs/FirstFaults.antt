@@ -37,8 +37,8 @@ InversionsFailByTheirOperand =
 
 -- an operator's value fails by the first fault of its
 -- operands, or by the operator's at their values
-abbrev pub OperatorsFailBehindTheirOperands : Type 0
-OperatorsFailBehindTheirOperands =
+abbrev pub OperatorsFailAfterTheirOperands : Type 0
+OperatorsFailAfterTheirOperands =
     (op : Operator) (t u : Tree) (bound : List ℤ) (e : Arith)
     → (value (Binary op t u) bound ≡ Err e)
     ↔ (IsFirstFault bound (t ∷ u ∷ []) e ⊎ ((x : ℤ) × (y : ℤ)

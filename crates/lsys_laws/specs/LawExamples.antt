@@ -152,10 +152,10 @@ pub want_of_memory :
 want_of_memory = refl
 
 -- the system stays at the end of a session, and where memory is wanting
-pub depths_behind :
+pub depths_after :
     map (λ script. (last_system (out (reply 100000) script (λ n. n == 3))).depth) (codes "depth 7\nquit\n" ∷ codes "depth 7\n\ndepth 8\n" ∷ codes "depth 7\ndepth 9\nx\n" ∷ codes "depth 7\nx" ∷ [])
     ≡ 7 ∷ 7 ∷ 9 ∷ 7 ∷ []
-depths_behind = refl
+depths_after = refl
 
 -- lines that spell commands, refused or not
 pub spelling_lines :

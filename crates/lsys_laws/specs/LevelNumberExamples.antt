@@ -36,8 +36,8 @@ unfolding digits
 tables_in_turn = refl
 
 -- a fault is told by its module, brackets before it not counted
-pub modules_behind_branches :
+pub modules_after_branches :
     run (codes "axiom [B][]A(0)\nproduction p: A(x) => A(1/x)\ndepth 1\n")
     ≡ codes "ok 0/0\nok 0/0\nrefused fault divide-by-zero level 0 module 2\n"
 unfolding digits
-modules_behind_branches = refl
+modules_after_branches = refl

@@ -29,10 +29,10 @@ unfolding digits
 table_before_successor = refl
 
 -- a string may stand right after the word, and is shown after a blank: the printed line has a byte more
-pub string_behind_word :
+pub string_after_word :
     run (codes "axiom+(1)\nshow\n") ≡ codes "ok 0/0\nlattice square\nseed 0\naxiom +(1)\nignore\nschedule main\ndepth 0\n"
 unfolding digits
-string_behind_word = refl
+string_after_word = refl
 
 -- a name goes before a mixed group, and so does a repeated formal
 pub duplicate_before_mixed :

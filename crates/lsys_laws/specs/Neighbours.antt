@@ -20,8 +20,8 @@ LeftNeighboursStayAwayFromSeams =
     → IsLeftSeam T S g ys k ⊎ (left_of k (flat f xs) ≡ left_of k (flat g ys))
 
 -- the right neighbour of a node that stands there once is that at the place after its own
-abbrev pub RightNeighboursStandBehind : Type 0
-RightNeighboursStandBehind =
+abbrev pub RightNeighboursStandAfter : Type 0
+RightNeighboursStandAfter =
     (ks : List ℕ) (p k : ℕ) → AreApart ks → slice_get ks p ≡ Some k
     → right_of k ks ≡ slice_get ks (p + 1)
 

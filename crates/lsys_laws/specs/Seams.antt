@@ -48,7 +48,7 @@ pub data IsRightSeam (T S : List ℕ) (g : ℕ → List ℕ) (ys : List ℕ) (k 
 -- the first child of those from one on that has another left neighbour.
 pub data IsLeftSeam (T S : List ℕ) (g : ℕ → List ℕ) (ys : List ℕ) (k : ℕ) : Type 0 where
   kid_of_touched : (q : ℕ) → In q ys → In q T → In k (g q) → IsLeftSeam T S g ys k
-  behind_touched : (q : ℕ) (before after : List ℕ) → ys ≡ before ++ q ∷ after → In q T
+  after_touched : (q : ℕ) (before after : List ℕ) → ys ≡ before ++ q ∷ after → In q T
       → first_in (flat g after) ≡ Some k → IsLeftSeam T S g ys k
   from_turned : (q : ℕ) (before after : List ℕ) → ys ≡ before ++ q ∷ after → In q S
       → first_in (flat g (q ∷ after)) ≡ Some k → IsLeftSeam T S g ys k

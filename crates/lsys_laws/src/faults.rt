@@ -1,6 +1,6 @@
 //! Laws of faults: which one is told.
 
-ghost use Rattle.lsys_laws.specs.FirstFaults.{ParametersFailByTheFirst, SuccessorsFailByTheFirstParameter, NegationsFailByTheirOperand, InversionsFailByTheirOperand, OperatorsFailBehindTheirOperands, TheRightOfBothCountsOnlyWhereTheLeftHolds, TheRightOfEitherCountsOnlyWhereTheLeftFails, ManyIsToldAtTheLeastPlace, ManyIsToldOnlyPastALimit, ProductionsAreManyAtTheLeastPlace};
+ghost use Rattle.lsys_laws.specs.FirstFaults.{ParametersFailByTheFirst, SuccessorsFailByTheFirstParameter, NegationsFailByTheirOperand, InversionsFailByTheirOperand, OperatorsFailAfterTheirOperands, TheRightOfBothCountsOnlyWhereTheLeftHolds, TheRightOfEitherCountsOnlyWhereTheLeftFails, ManyIsToldAtTheLeastPlace, ManyIsToldOnlyPastALimit, ProductionsAreManyAtTheLeastPlace};
 
 /// Parameters fail by the first of them, from the left, that has no value; and a successor by the first of all its
 /// parameters. Where none fails, there is no fault.
@@ -15,7 +15,7 @@ pub fn law_of_first_faults()
 pub fn law_of_value_faults()
     ensures negation { NegationsFailByTheirOperand }
     ensures inversion { InversionsFailByTheirOperand }
-    ensures binary { OperatorsFailBehindTheirOperands }
+    ensures binary { OperatorsFailAfterTheirOperands }
     ensures both { TheRightOfBothCountsOnlyWhereTheLeftHolds }
     ensures either { TheRightOfEitherCountsOnlyWhereTheLeftFails }
 {}

@@ -50,12 +50,12 @@ front_named (t ∷ ts) more (l ∷ ls) rest d n =
     ∙ front_named ts more ls rest (record { apart = λ p q u a b. let e = d.apart (suc p) (suc q) u a b in omega (arith, e) }) (omega (arith, n)))
 
 -- tags that are not among the first ones
-behind_named : (ts more : List ℕ) (ls rest : List (List ℕ)) (us : List ℕ) → length ls ≡ length ts → ((p q t : ℕ) → slice_get ts p ≡ Some t → slice_get us q ≡ Some t → ⊥) → map (naming_of (ts ++ more) (ls ++ rest)) us ≡ map (naming_of more rest) us
-behind_named [] more [] rest us n apart = refl
-behind_named [] more (l ∷ ls) rest us n apart = absurd (omega (arith, n))
-behind_named (t ∷ ts) more [] rest us n apart = absurd (omega (arith, n))
-behind_named (t ∷ ts) more (l ∷ ls) rest us n apart =
-    others_named t (ts ++ more) l (ls ++ rest) us (λ q h. apart 0 q t refl h) ∙ behind_named ts more ls rest us (omega (arith, n)) (λ p. apart (suc p))
+after_named : (ts more : List ℕ) (ls rest : List (List ℕ)) (us : List ℕ) → length ls ≡ length ts → ((p q t : ℕ) → slice_get ts p ≡ Some t → slice_get us q ≡ Some t → ⊥) → map (naming_of (ts ++ more) (ls ++ rest)) us ≡ map (naming_of more rest) us
+after_named [] more [] rest us n apart = refl
+after_named [] more (l ∷ ls) rest us n apart = absurd (omega (arith, n))
+after_named (t ∷ ts) more [] rest us n apart = absurd (omega (arith, n))
+after_named (t ∷ ts) more (l ∷ ls) rest us n apart =
+    others_named t (ts ++ more) l (ls ++ rest) us (λ q h. apart 0 q t refl h) ∙ after_named ts more ls rest us (omega (arith, n)) (λ p. apart (suc p))
 
 -- 2. one naming for all levels
 
@@ -129,8 +129,8 @@ own_apart spots levels own = record {
       (own.apart 0 0 p q a.0 b.0 a.1 b.1 (a.2 ∙ sym b.2)).1;
 }
 
-own_behind : (spots : List Spotted) (levels : List (List Spotted)) → HasOwnTags (spots ∷ levels) → (u p q t : ℕ) → slice_get (map (λ (s : Spotted). s.tag) spots) p ≡ Some t → slice_get (map (λ (s : Spotted). s.tag) (spots_at levels u)) q ≡ Some t → ⊥
-own_behind spots levels own u p q t h k =
+own_after : (spots : List Spotted) (levels : List (List Spotted)) → HasOwnTags (spots ∷ levels) → (u p q t : ℕ) → slice_get (map (λ (s : Spotted). s.tag) spots) p ≡ Some t → slice_get (map (λ (s : Spotted). s.tag) (spots_at levels u)) q ≡ Some t → ⊥
+own_after spots levels own u p q t h k =
     let a = read_tag spots p t h in
     let b = read_tag (spots_at levels u) q t k in
     let e : 0 ≡ suc u = (own.apart 0 (suc u) p q a.0 b.0 a.1 b.1 (a.2 ∙ sym b.2)).0 in
@@ -152,7 +152,7 @@ all_named (spots ∷ levels) (x ∷ xs) own shows zero =
     (front_named (map (λ (s : Spotted). s.tag) spots) (tags_in levels) (map lineage x) (lineages_in xs) (own_apart spots levels own) (as_long spots x (shows 0)))
 all_named (spots ∷ levels) (x ∷ xs) own shows (suc t) =
     same_named (naming_of (tags_in (spots ∷ levels)) (lineages_in (x ∷ xs))) (naming_of (tags_in levels) (lineages_in xs)) (spots_at levels t)
-    (behind_named (map (λ (s : Spotted). s.tag) spots) (tags_in levels) (map lineage x) (lineages_in xs) (map (λ (s : Spotted). s.tag) (spots_at levels t)) (as_long spots x (shows 0)) (own_behind spots levels own t))
+    (after_named (map (λ (s : Spotted). s.tag) spots) (tags_in levels) (map lineage x) (lineages_in xs) (map (λ (s : Spotted). s.tag) (spots_at levels t)) (as_long spots x (shows 0)) (own_after spots levels own t))
     ∙ all_named levels xs (record { apart = λ t u p q a b here there e. let k = own.apart (suc t) (suc u) p q a b here there e in (omega (arith, k.0), k.1) }) (λ t. shows (suc t)) t
 
 pub is_named : (xs : List (List L.LevelSymbol)) (levels : List (List Spotted)) → HasOwnTags levels → ShowsLevels xs levels → IsNamed xs levels

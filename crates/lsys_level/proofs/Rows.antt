@@ -28,9 +28,9 @@ take_own : (params : List ℤ) → take (length params) params ≡ params
 take_own [] = refl
 take_own (v ∷ params) = ap (λ r. v ∷ r) (take_own params)
 
-drop_behind : (values params : List ℤ) → drop (length values) (values ++ params) ≡ params
-drop_behind [] params = refl
-drop_behind (v ∷ values) params = drop_behind values params
+drop_after : (values params : List ℤ) → drop (length values) (values ++ params) ≡ params
+drop_after [] params = refl
+drop_after (v ∷ values) params = drop_after values params
 
 seen_on : (values more : List ℤ) (k : KeptKind) (name : List ℕ) (n arity : ℕ) → HasParamsWithin k (n + arity) (length values)
     → seen_by_kind k name (take arity (drop n (values ++ more))) ≡ seen_by_kind k name (take arity (drop n values))
@@ -65,7 +65,7 @@ told_new values symbols.Pop m t k = refl
 told_new values symbols.Cut m t k = refl
 told_new values (symbols.Module a) m t k =
     ap (λ ps. record { seen = Module (record { name = module_name a.name; params = ps }); tag = t; key = k })
-    (ap (take (length a.params)) (drop_behind values a.params) ∙ take_own a.params)
+    (ap (take (length a.params)) (drop_after values a.params) ∙ take_own a.params)
 
 fits_new : (values : List ℤ) (s : Symbol) (m t k : ℕ) → length (params_in s) ≤ 8 → Fits (values ++ params_in s) (kept_place s m (length values) t k)
 fits_new values symbols.Push m t k h = record { few = omega arith; within = tt }

@@ -17,7 +17,7 @@ use Rattle.lsys_module.specs.Scanning.{string_verdict, glyph_of}
 use Rattle.lsys_module.specs.Building.{Draft, whole, draft_step, draft_limit, draft_end, kind_name, CanTake, IsTaken, token_column, IsBuiltBy, IsBuiltOf}
 use Rattle.lsys_module.proofs.ScanSteps.{kinds-at}
 use Rattle.lsys_module.proofs.Runs.{Outcome, run, after_turn, run-turn, outcome, string-runs}
-use Rattle.lsys_module.proofs.Spelled.{IsStringOf, string-spelled, tokens-behind}
+use Rattle.lsys_module.proofs.Spelled.{IsStringOf, string-spelled, tokens-after}
 
 -- all the tokens from a place on, read one after another
 abbrev pub whole_run : ℕ → List Token → Outcome
@@ -26,7 +26,7 @@ whole_run from tokens = run from (whole []) (drop from (kind_row tokens))
 -- they are read as the string's values, or refused where it passes a limit
 pub whole-run : (from : ℕ) (tokens : List Token) (xs : List (Symbol Signed)) → AreTokens (kind_row tokens) → string_verdict from tokens ≡ sentence (set_axiom xs) → whole_run from tokens ≡ outcome (axiom_many from xs) (values_of xs)
 whole-run from tokens xs forms e =
-    let is : IsStringOf (drop from (kind_row tokens)) xs = string-spelled (drop from (kind_row tokens)) from xs (tokens-behind from (kind_row tokens) forms) e in
+    let is : IsStringOf (drop from (kind_row tokens)) xs = string-spelled (drop from (kind_row tokens)) from xs (tokens-after from (kind_row tokens) forms) e in
     sym (ap (run from (whole [])) is.spelled) ∙ string-runs xs is.symbols 0 0 from [] (omega arith)
 
 -- the form of the token at a place

@@ -7,9 +7,9 @@ use Rattle.lsys_module.specs.declared.glyph.StringGlyph.{StringGlyph}
 use Rattle.lsys_module.specs.declared.glyph.StringGlyph.TheVariants as glyphs
 use Rattle.lsys_module.specs.declared.limits.StringCounts.{StringCounts}
 use Rattle.lsys_module.specs.declared.limits.CountSpot.{CountSpot}
-use Rattle.lsys_module.specs.declared.limits.CountSpot.TheVariants.{Outside, BehindName, ParamDue, InParam}
+use Rattle.lsys_module.specs.declared.limits.CountSpot.TheVariants.{Outside, AfterName, ParamDue, InParam}
 use Rattle.lsys_module.specs.Building.{Draft, whole, named, number_due, minus_read, number_read, draft_step, draft_limit, before_number_step, after_minus_step, after_number_step}
-use Rattle.lsys_module.specs.Counting.{CountsDraft, counter_step, with_symbol, with_param, spot_behind, spot_counted}
+use Rattle.lsys_module.specs.Counting.{CountsDraft, counter_step, with_symbol, with_param, spot_after, spot_counted}
 
 full : (s : CountSpot) (c : StringCounts) (n : ℕ) → c.symbols ≡ n → nat_lt most_axiom_symbols (n + 1) ≡ true → with_symbol s c ≡ None
 full s c n e h =
@@ -39,7 +39,7 @@ abbrev NoParen : StringGlyph → Type 0
 NoParen glyphs.Open = ⊥
 NoParen g = Unit {0}
 
-no-paren : (c : StringCounts) (g : StringGlyph) → NoParen g → spot_counted BehindName c g ≡ with_symbol (spot_behind g) c
+no-paren : (c : StringCounts) (g : StringGlyph) → NoParen g → spot_counted AfterName c g ≡ with_symbol (spot_after g) c
 no-paren c glyphs.Name h = refl
 no-paren c glyphs.Minus h = refl
 no-paren c glyphs.Push h = refl
@@ -53,17 +53,17 @@ no-paren c glyphs.Other h = refl
 
 -- the token is one too many exactly where the counter says so
 pub limit-counted : (d : Draft) (c : StringCounts) (g : StringGlyph) → CountsDraft d c → draft_limit d g ≡ true → counter_step c g ≡ None
-limit-counted (whole ys) c g h e = ap (λ s. spot_counted s c g) h.0 ∙ full (spot_behind g) c (length ys) h.1 e
-limit-counted (named ys n) c glyphs.Name h e = ap (λ s. spot_counted s c glyphs.Name) h.0 ∙ full (spot_behind glyphs.Name) c (length (ys ++ Module n [] ∷ [])) (h.1 ∙ sym (longer ys (Module n []))) e
-limit-counted (named ys n) c glyphs.Minus h e = ap (λ s. spot_counted s c glyphs.Minus) h.0 ∙ full (spot_behind glyphs.Minus) c (length (ys ++ Module n [] ∷ [])) (h.1 ∙ sym (longer ys (Module n []))) e
-limit-counted (named ys n) c glyphs.Push h e = ap (λ s. spot_counted s c glyphs.Push) h.0 ∙ full (spot_behind glyphs.Push) c (length (ys ++ Module n [] ∷ [])) (h.1 ∙ sym (longer ys (Module n []))) e
-limit-counted (named ys n) c glyphs.Pop h e = ap (λ s. spot_counted s c glyphs.Pop) h.0 ∙ full (spot_behind glyphs.Pop) c (length (ys ++ Module n [] ∷ [])) (h.1 ∙ sym (longer ys (Module n []))) e
-limit-counted (named ys n) c glyphs.Cut h e = ap (λ s. spot_counted s c glyphs.Cut) h.0 ∙ full (spot_behind glyphs.Cut) c (length (ys ++ Module n [] ∷ [])) (h.1 ∙ sym (longer ys (Module n []))) e
+limit-counted (whole ys) c g h e = ap (λ s. spot_counted s c g) h.0 ∙ full (spot_after g) c (length ys) h.1 e
+limit-counted (named ys n) c glyphs.Name h e = ap (λ s. spot_counted s c glyphs.Name) h.0 ∙ full (spot_after glyphs.Name) c (length (ys ++ Module n [] ∷ [])) (h.1 ∙ sym (longer ys (Module n []))) e
+limit-counted (named ys n) c glyphs.Minus h e = ap (λ s. spot_counted s c glyphs.Minus) h.0 ∙ full (spot_after glyphs.Minus) c (length (ys ++ Module n [] ∷ [])) (h.1 ∙ sym (longer ys (Module n []))) e
+limit-counted (named ys n) c glyphs.Push h e = ap (λ s. spot_counted s c glyphs.Push) h.0 ∙ full (spot_after glyphs.Push) c (length (ys ++ Module n [] ∷ [])) (h.1 ∙ sym (longer ys (Module n []))) e
+limit-counted (named ys n) c glyphs.Pop h e = ap (λ s. spot_counted s c glyphs.Pop) h.0 ∙ full (spot_after glyphs.Pop) c (length (ys ++ Module n [] ∷ [])) (h.1 ∙ sym (longer ys (Module n []))) e
+limit-counted (named ys n) c glyphs.Cut h e = ap (λ s. spot_counted s c glyphs.Cut) h.0 ∙ full (spot_after glyphs.Cut) c (length (ys ++ Module n [] ∷ [])) (h.1 ∙ sym (longer ys (Module n []))) e
 limit-counted (named ys n) c glyphs.Open h e = cc
-limit-counted (named ys n) c glyphs.Close h e = ap (λ s. spot_counted s c glyphs.Close) h.0 ∙ full (spot_behind glyphs.Close) c (length (ys ++ Module n [] ∷ [])) (h.1 ∙ sym (longer ys (Module n []))) e
-limit-counted (named ys n) c glyphs.Comma h e = ap (λ s. spot_counted s c glyphs.Comma) h.0 ∙ full (spot_behind glyphs.Comma) c (length (ys ++ Module n [] ∷ [])) (h.1 ∙ sym (longer ys (Module n []))) e
-limit-counted (named ys n) c (glyphs.Number k) h e = ap (λ s. spot_counted s c (glyphs.Number k)) h.0 ∙ full (spot_behind (glyphs.Number k)) c (length (ys ++ Module n [] ∷ [])) (h.1 ∙ sym (longer ys (Module n []))) e
-limit-counted (named ys n) c glyphs.Other h e = ap (λ s. spot_counted s c glyphs.Other) h.0 ∙ full (spot_behind glyphs.Other) c (length (ys ++ Module n [] ∷ [])) (h.1 ∙ sym (longer ys (Module n []))) e
+limit-counted (named ys n) c glyphs.Close h e = ap (λ s. spot_counted s c glyphs.Close) h.0 ∙ full (spot_after glyphs.Close) c (length (ys ++ Module n [] ∷ [])) (h.1 ∙ sym (longer ys (Module n []))) e
+limit-counted (named ys n) c glyphs.Comma h e = ap (λ s. spot_counted s c glyphs.Comma) h.0 ∙ full (spot_after glyphs.Comma) c (length (ys ++ Module n [] ∷ [])) (h.1 ∙ sym (longer ys (Module n []))) e
+limit-counted (named ys n) c (glyphs.Number k) h e = ap (λ s. spot_counted s c (glyphs.Number k)) h.0 ∙ full (spot_after (glyphs.Number k)) c (length (ys ++ Module n [] ∷ [])) (h.1 ∙ sym (longer ys (Module n []))) e
+limit-counted (named ys n) c glyphs.Other h e = ap (λ s. spot_counted s c glyphs.Other) h.0 ∙ full (spot_after glyphs.Other) c (length (ys ++ Module n [] ∷ [])) (h.1 ∙ sym (longer ys (Module n []))) e
 limit-counted (number_due ys n zs) c g h e = ap (λ s. spot_counted s c g) h.0 ∙ full_params c (length zs) h.2 e
 limit-counted (minus_read ys n zs) c g h e = cc
 limit-counted (number_read ys n zs) c g h e = cc
@@ -75,12 +75,12 @@ Goes c g e = (b : StringCounts) × (counter_step c g ≡ Some b) × CountsDraft 
 at_some : (P : Draft → Type 0) (x e : Draft) → Some x ≡ Some e → P x → P e
 at_some P x e h p = let same : x ≡ e = cc in subst P same p
 
-outside : (c : StringCounts) (g : StringGlyph) (ys : List (Symbol ℤ)) → c.spot ≡ Outside → c.symbols ≡ length ys → nat_lt most_axiom_symbols (length ys + 1) ≡ false → counter_step c g ≡ Some (record { spot = spot_behind g; symbols = c.symbols + 1; params = 0 })
-outside c g ys s n free = ap (λ t. spot_counted t c g) s ∙ room (spot_behind g) c (length ys) n free
+outside : (c : StringCounts) (g : StringGlyph) (ys : List (Symbol ℤ)) → c.spot ≡ Outside → c.symbols ≡ length ys → nat_lt most_axiom_symbols (length ys + 1) ≡ false → counter_step c g ≡ Some (record { spot = spot_after g; symbols = c.symbols + 1; params = 0 })
+outside c g ys s n free = ap (λ t. spot_counted t c g) s ∙ room (spot_after g) c (length ys) n free
 
-behind_name : (c : StringCounts) (g : StringGlyph) (ys : List (Symbol ℤ)) (n : ModuleName) → c.spot ≡ BehindName → NoParen g → c.symbols ≡ length ys + 1 → nat_lt most_axiom_symbols (length (ys ++ Module n [] ∷ []) + 1) ≡ false
-    → counter_step c g ≡ Some (record { spot = spot_behind g; symbols = c.symbols + 1; params = 0 })
-behind_name c g ys n s none count free = ap (λ t. spot_counted t c g) s ∙ no-paren c g none ∙ room (spot_behind g) c (length (ys ++ Module n [] ∷ [])) (count ∙ sym (longer ys (Module n []))) free
+after_name : (c : StringCounts) (g : StringGlyph) (ys : List (Symbol ℤ)) (n : ModuleName) → c.spot ≡ AfterName → NoParen g → c.symbols ≡ length ys + 1 → nat_lt most_axiom_symbols (length (ys ++ Module n [] ∷ []) + 1) ≡ false
+    → counter_step c g ≡ Some (record { spot = spot_after g; symbols = c.symbols + 1; params = 0 })
+after_name c g ys n s none count free = ap (λ t. spot_counted t c g) s ∙ no-paren c g none ∙ room (spot_after g) c (length (ys ++ Module n [] ∷ [])) (count ∙ sym (longer ys (Module n []))) free
 
 either_some : (b : Bool) (x e : Draft) → (if b then Some x else None) ≡ Some e → x ≡ e
 either_some true x e h = cc
@@ -141,11 +141,11 @@ step-counted (whole ys) e c glyphs.Close m h free step = cc
 step-counted (whole ys) e c glyphs.Comma m h free step = cc
 step-counted (whole ys) e c (glyphs.Number k) m h free step = cc
 step-counted (whole ys) e c glyphs.Other m h free step = cc
-step-counted (named ys n) e c glyphs.Name m h free step = at_some (Goes c glyphs.Name) (named (ys ++ Module n [] ∷ []) m) e step (_, behind_name c glyphs.Name ys n h.0 tt h.1 free, (refl, omega (arith, h.1, longer ys (Module n [])), refl))
-step-counted (named ys n) e c glyphs.Minus m h free step = at_some (Goes c glyphs.Minus) (named (ys ++ Module n [] ∷ []) m) e step (_, behind_name c glyphs.Minus ys n h.0 tt h.1 free, (refl, omega (arith, h.1, longer ys (Module n [])), refl))
-step-counted (named ys n) e c glyphs.Push m h free step = at_some (Goes c glyphs.Push) (whole ((ys ++ Module n [] ∷ []) ++ Push ∷ [])) e step (_, behind_name c glyphs.Push ys n h.0 tt h.1 free, (refl, omega (arith, h.1, longer ys (Module n []), longer (ys ++ Module n [] ∷ []) Push)))
-step-counted (named ys n) e c glyphs.Pop m h free step = at_some (Goes c glyphs.Pop) (whole ((ys ++ Module n [] ∷ []) ++ Pop ∷ [])) e step (_, behind_name c glyphs.Pop ys n h.0 tt h.1 free, (refl, omega (arith, h.1, longer ys (Module n []), longer (ys ++ Module n [] ∷ []) Pop)))
-step-counted (named ys n) e c glyphs.Cut m h free step = at_some (Goes c glyphs.Cut) (whole ((ys ++ Module n [] ∷ []) ++ Cut ∷ [])) e step (_, behind_name c glyphs.Cut ys n h.0 tt h.1 free, (refl, omega (arith, h.1, longer ys (Module n []), longer (ys ++ Module n [] ∷ []) Cut)))
+step-counted (named ys n) e c glyphs.Name m h free step = at_some (Goes c glyphs.Name) (named (ys ++ Module n [] ∷ []) m) e step (_, after_name c glyphs.Name ys n h.0 tt h.1 free, (refl, omega (arith, h.1, longer ys (Module n [])), refl))
+step-counted (named ys n) e c glyphs.Minus m h free step = at_some (Goes c glyphs.Minus) (named (ys ++ Module n [] ∷ []) m) e step (_, after_name c glyphs.Minus ys n h.0 tt h.1 free, (refl, omega (arith, h.1, longer ys (Module n [])), refl))
+step-counted (named ys n) e c glyphs.Push m h free step = at_some (Goes c glyphs.Push) (whole ((ys ++ Module n [] ∷ []) ++ Push ∷ [])) e step (_, after_name c glyphs.Push ys n h.0 tt h.1 free, (refl, omega (arith, h.1, longer ys (Module n []), longer (ys ++ Module n [] ∷ []) Push)))
+step-counted (named ys n) e c glyphs.Pop m h free step = at_some (Goes c glyphs.Pop) (whole ((ys ++ Module n [] ∷ []) ++ Pop ∷ [])) e step (_, after_name c glyphs.Pop ys n h.0 tt h.1 free, (refl, omega (arith, h.1, longer ys (Module n []), longer (ys ++ Module n [] ∷ []) Pop)))
+step-counted (named ys n) e c glyphs.Cut m h free step = at_some (Goes c glyphs.Cut) (whole ((ys ++ Module n [] ∷ []) ++ Cut ∷ [])) e step (_, after_name c glyphs.Cut ys n h.0 tt h.1 free, (refl, omega (arith, h.1, longer ys (Module n []), longer (ys ++ Module n [] ∷ []) Cut)))
 step-counted (named ys n) e c glyphs.Open m h free step = at_some (Goes c glyphs.Open) (number_due ys n []) e step (_, ap (λ t. spot_counted t c glyphs.Open) h.0, (refl, h.1, h.2))
 step-counted (named ys n) e c glyphs.Close m h free step = cc
 step-counted (named ys n) e c glyphs.Comma m h free step = cc

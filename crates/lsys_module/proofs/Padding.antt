@@ -24,9 +24,9 @@ each-push : (xs : List ℤ) (x : ℤ) → EachOf IsParam xs → IsParam x → Ea
 each-push [] x h k = (k, tt)
 each-push (y ∷ ys) x h k = (h.0, each-push ys x h.1 k)
 
-set_behind : (xs : List ℤ) (y v : ℤ) (ys : List ℤ) → set (xs ++ y ∷ ys) (length xs) v ≡ (xs ++ v ∷ []) ++ ys
-set_behind [] y v ys = refl
-set_behind (x ∷ xs) y v ys = ap (λ zs. x ∷ zs) (set_behind xs y v ys)
+set_after : (xs : List ℤ) (y v : ℤ) (ys : List ℤ) → set (xs ++ y ∷ ys) (length xs) v ≡ (xs ++ v ∷ []) ++ ys
+set_after [] y v ys = refl
+set_after (x ∷ xs) y v ys = ap (λ zs. x ∷ zs) (set_after xs y v ys)
 
 -- one more value
 pub one_written : (values kept : List ℤ) (i : ℕ) → length values ≤ 8 → i < length values → SFits w64 (get_or values i (pos 0)) → AreWritten values kept i → AreWritten values (set kept i (get_or values i (pos 0))) (i + 1)
@@ -40,7 +40,7 @@ one_written values kept i few h fits is =
       front =
           ap (λ ks. set ks i v) (is.front ∙ ap (λ ys. take i values ++ ys) rest)
           ∙ ap (λ j. set (take i values ++ get_or zeros i (pos 0) ∷ drop (i + 1) zeros) j v) (sym long)
-          ∙ set_behind (take i values) (get_or zeros i (pos 0)) v (drop (i + 1) zeros)
+          ∙ set_after (take i values) (get_or zeros i (pos 0)) v (drop (i + 1) zeros)
           ∙ ap (λ xs. xs ++ drop (i + 1) zeros) (sym more);
       small = rw more (each-push (take i values) v is.small (is_param v fits));
     }

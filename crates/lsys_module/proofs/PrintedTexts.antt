@@ -5,7 +5,7 @@ use Rattle.lsys_syntax.specs.Tokens.{RightParen}
 use Rattle.lsys_syntax.specs.Pieces.{Piece, blank, token, note, token_text, text_of}
 use Rattle.lsys_syntax.specs.Strings.{Symbol, Module, ModuleName, is_letters, gap, ends_in_name, starts_with_letter, begins_with_letter, symbol_pieces, more_pieces, string_pieces}
 use Rattle.lsys_spec.specs.Systems.{module_name_text}
-use Rattle.lsys_module.specs.Printing.{gap_text, name_behind, symbol_behind, symbols_behind, params_text, more_text}
+use Rattle.lsys_module.specs.Printing.{gap_text, name_after, symbol_after, symbols_after, params_text, more_text}
 
 pub text_of-append : (ps qs : List Piece) → text_of (ps ++ qs) ≡ text_of ps ++ text_of qs
 text_of-append [] qs = refl
@@ -34,7 +34,7 @@ gap-last : (runs_on : Bool) → gap_text runs_on false ++ [] ≡ []
 gap-last true = refl
 gap-last false = refl
 
-gap-string : {P : Type 0} (print : P → List Piece) (runs_on : Bool) (xs : List (Symbol P)) → gap_text runs_on (begins_with_letter xs) ++ text_of (string_pieces print xs) ≡ symbols_behind print runs_on xs
+gap-string : {P : Type 0} (print : P → List Piece) (runs_on : Bool) (xs : List (Symbol P)) → gap_text runs_on (begins_with_letter xs) ++ text_of (string_pieces print xs) ≡ symbols_after print runs_on xs
 gap-string print runs_on [] = gap-last runs_on
 gap-string print runs_on (x ∷ xs) =
     let rest = gap (ends_in_name x) (begins_with_letter xs) ++ string_pieces print xs in
@@ -42,10 +42,10 @@ gap-string print runs_on (x ∷ xs) =
     (text_of-append (symbol_pieces print x) rest
     ∙ ap (λ t. text_of (symbol_pieces print x) ++ t)
     (text_of-append (gap (ends_in_name x) (begins_with_letter xs)) (string_pieces print xs) ∙ gap-string print (ends_in_name x) xs))
-    ∙ sym (append_assoc (gap_text runs_on (starts_with_letter x)) (text_of (symbol_pieces print x)) (symbols_behind print (ends_in_name x) xs))
+    ∙ sym (append_assoc (gap_text runs_on (starts_with_letter x)) (text_of (symbol_pieces print x)) (symbols_after print (ends_in_name x) xs))
 
 -- a printed string is its symbols, each after its blank
-pub string-text : {P : Type 0} (print : P → List Piece) (xs : List (Symbol P)) → text_of (string_pieces print xs) ≡ symbols_behind print false xs
+pub string-text : {P : Type 0} (print : P → List Piece) (xs : List (Symbol P)) → text_of (string_pieces print xs) ≡ symbols_after print false xs
 string-text print xs = gap-string print false xs
 
 -- the last symbol runs on, or, where there is none, the one before
@@ -54,24 +54,24 @@ last_runs_on runs_on [] = runs_on
 last_runs_on runs_on (x ∷ xs) = last_runs_on (ends_in_name x) xs
 
 -- symbols, and others after them
-pub symbols_behind-append : {P : Type 0} (print : P → List Piece) (runs_on : Bool) (xs ys : List (Symbol P))
-    → symbols_behind print runs_on (xs ++ ys) ≡ symbols_behind print runs_on xs ++ symbols_behind print (last_runs_on runs_on xs) ys
-symbols_behind-append print runs_on [] ys = refl
-symbols_behind-append print runs_on (x ∷ xs) ys =
-    ap (λ t. symbol_behind print runs_on x ++ t) (symbols_behind-append print (ends_in_name x) xs ys)
-    ∙ sym (append_assoc (symbol_behind print runs_on x) (symbols_behind print (ends_in_name x) xs) (symbols_behind print (last_runs_on (ends_in_name x) xs) ys))
+pub symbols_after-append : {P : Type 0} (print : P → List Piece) (runs_on : Bool) (xs ys : List (Symbol P))
+    → symbols_after print runs_on (xs ++ ys) ≡ symbols_after print runs_on xs ++ symbols_after print (last_runs_on runs_on xs) ys
+symbols_after-append print runs_on [] ys = refl
+symbols_after-append print runs_on (x ∷ xs) ys =
+    ap (λ t. symbol_after print runs_on x ++ t) (symbols_after-append print (ends_in_name x) xs ys)
+    ∙ sym (append_assoc (symbol_after print runs_on x) (symbols_after print (ends_in_name x) xs) (symbols_after print (last_runs_on (ends_in_name x) xs) ys))
 
 pub last_runs_on-append : {P : Type 0} (runs_on : Bool) (xs : List (Symbol P)) (y : Symbol P) → last_runs_on runs_on (xs ++ y ∷ []) ≡ ends_in_name y
 last_runs_on-append runs_on [] y = refl
 last_runs_on-append runs_on (x ∷ xs) y = last_runs_on-append (ends_in_name x) xs y
 
 -- a module is its name and its parameters
-pub module-behind : {P : Type 0} (print : P → List Piece) (runs_on : Bool) (name : ModuleName) (params : List P) → symbol_behind print runs_on (Module name params) ≡ name_behind runs_on name ++ params_text print params
-module-behind print runs_on name params = sym (append_assoc (gap_text runs_on (is_letters name)) (module_name_text name) (params_text print params))
+pub module-after : {P : Type 0} (print : P → List Piece) (runs_on : Bool) (name : ModuleName) (params : List P) → symbol_after print runs_on (Module name params) ≡ name_after runs_on name ++ params_text print params
+module-after print runs_on name params = sym (append_assoc (gap_text runs_on (is_letters name)) (module_name_text name) (params_text print params))
 
 -- one more symbol
-pub one-more : {P : Type 0} (print : P → List Piece) (runs_on : Bool) (xs : List (Symbol P)) (y : Symbol P) → symbols_behind print runs_on (xs ++ y ∷ []) ≡ symbols_behind print runs_on xs ++ symbol_behind print (last_runs_on runs_on xs) y
-one-more print runs_on xs y = symbols_behind-append print runs_on xs (y ∷ []) ∙ ap (λ t. symbols_behind print runs_on xs ++ t) (append-nil (symbol_behind print (last_runs_on runs_on xs) y))
+pub one-more : {P : Type 0} (print : P → List Piece) (runs_on : Bool) (xs : List (Symbol P)) (y : Symbol P) → symbols_after print runs_on (xs ++ y ∷ []) ≡ symbols_after print runs_on xs ++ symbol_after print (last_runs_on runs_on xs) y
+one-more print runs_on xs y = symbols_after-append print runs_on xs (y ∷ []) ∙ ap (λ t. symbols_after print runs_on xs ++ t) (append-nil (symbol_after print (last_runs_on runs_on xs) y))
 
 -- one more item, as the symbol that it stands for
 pub map-more : {X S : Type 0} (f : X → S) (items : List X) (i : ℕ) (d : X) → i < length items → d ≡ get_or items i d → map f (take (i + 1) items) ≡ map f (take i items) ++ f d ∷ []
@@ -92,15 +92,15 @@ more_text-rest print f xs i =
 
 -- the items up to a place and the one there, put as symbols
 pub symbols-step : {X P : Type 0} (print : P → List Piece) (f : X → Symbol P) (runs_on : Bool) (items : List X) (i : ℕ) (d : X) → i < length items → d ≡ get_or items i d
-    → symbols_behind print runs_on (map f (take (i + 1) items)) ≡ symbols_behind print runs_on (map f (take i items)) ++ symbol_behind print (last_runs_on runs_on (map f (take i items))) (f d)
-symbols-step print f runs_on items i d h e = ap (symbols_behind print runs_on) (map-more f items i d h e) ∙ one-more print runs_on (map f (take i items)) (f d)
+    → symbols_after print runs_on (map f (take (i + 1) items)) ≡ symbols_after print runs_on (map f (take i items)) ++ symbol_after print (last_runs_on runs_on (map f (take i items))) (f d)
+symbols-step print f runs_on items i d h e = ap (symbols_after print runs_on) (map-more f items i d h e) ∙ one-more print runs_on (map f (take i items)) (f d)
 
 pub runs_on-step : {X P : Type 0} (f : X → Symbol P) (runs_on : Bool) (items : List X) (i : ℕ) (d : X) → i < length items → d ≡ get_or items i d → last_runs_on runs_on (map f (take (i + 1) items)) ≡ ends_in_name (f d)
 runs_on-step f runs_on items i d h e = ap (last_runs_on runs_on) (map-more f items i d h e) ∙ last_runs_on-append runs_on (map f (take i items)) (f d)
 
 -- the items up to a place, and those after it, put as a string
 pub string-rest : {X P : Type 0} (print : P → List Piece) (f : X → Symbol P) (items : List X) (i : ℕ)
-    → text_of (string_pieces print (map f items)) ≡ symbols_behind print false (map f (take i items)) ++ symbols_behind print (last_runs_on false (map f (take i items))) (map f (drop i items))
+    → text_of (string_pieces print (map f items)) ≡ symbols_after print false (map f (take i items)) ++ symbols_after print (last_runs_on false (map f (take i items))) (map f (drop i items))
 string-rest print f items i =
-    string-text print (map f items) ∙ ap (λ xs. symbols_behind print false (map f xs)) (sym (take-append-drop i items))
-    ∙ ap (symbols_behind print false) (map-append f (take i items) (drop i items)) ∙ symbols_behind-append print false (map f (take i items)) (map f (drop i items))
+    string-text print (map f items) ∙ ap (λ xs. symbols_after print false (map f xs)) (sym (take-append-drop i items))
+    ∙ ap (symbols_after print false) (map-append f (take i items) (drop i items)) ∙ symbols_after-append print false (map f (take i items)) (map f (drop i items))

@@ -81,14 +81,14 @@ minus-step : (r : List (Symbol Signed)) (n : ModuleName) (zs : List Signed) (k :
 minus-step r n zs (syntax.Number m) = small-number r n (minus_sign m) zs (nat_le m (2 ^ 63))
 minus-step r n zs k = refl
 
-bare-behind : (n : ModuleName) (ys : List Signed) (z : Signed) (zs : List Signed) (r : List (Symbol Signed)) → is_bare (Module n (reversed_onto zs (z ∷ ys)) ∷ r) ≡ false
-bare-behind n ys z [] r = refl
-bare-behind n ys z (y ∷ zs) r = bare-behind n (z ∷ ys) y zs r
+bare-after : (n : ModuleName) (ys : List Signed) (z : Signed) (zs : List Signed) (r : List (Symbol Signed)) → is_bare (Module n (reversed_onto zs (z ∷ ys)) ∷ r) ≡ false
+bare-after n ys z [] r = refl
+bare-after n ys z (y ∷ zs) r = bare-after n (z ∷ ys) y zs r
 
 number_read-step : (r : List (Symbol Signed)) (n : ModuleName) (z : Signed) (zs : List Signed) (k : syntax.Kind) → StepsTo (within (open_in r) (param_step spots.NumberRead (glyph_of k))) (number_read_step k r n (z ∷ zs))
 number_read-step r n z zs syntax.Comma = (NumberDue r n (z ∷ zs), refl, refl, tt)
 number_read-step r n z zs syntax.RightParen =
-    (Symbols (Module n (reversed (z ∷ zs)) ∷ r), refl, ap (λ b. record { spot = spots.Between b; branches = open_in r }) (bare-behind n [] z zs r), tt)
+    (Symbols (Module n (reversed (z ∷ zs)) ∷ r), refl, ap (λ b. record { spot = spots.Between b; branches = open_in r }) (bare-after n [] z zs r), tt)
 number_read-step r n z zs k = refl
 
 along : (o : Option ScanSpot) (m : ℕ) (s : State) → StepsTo (within m o) s → StepsTo (option_map (λ spot. record { spot = spot; branches = m }) o) s

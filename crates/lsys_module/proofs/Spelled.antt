@@ -3,7 +3,7 @@ use Rattle.std.proofs.Common.{◌≡◌, ℕ, zero, suc, ◌+◌, Bool, true, fa
 use Rattle.lsys_syntax.specs.Tokens.{Kind, Word}
 use Rattle.lsys_syntax.specs.Pieces.{kinds_of}
 use Rattle.lsys_syntax.specs.Strings.{Symbol, Signed, string_pieces, signed_pieces, EachOf, IsSymbol, IsSigned}
-use Rattle.lsys_syntax.specs.Commands.{Command, set_axiom, string_behind}
+use Rattle.lsys_syntax.specs.Commands.{Command, set_axiom, string_after}
 use Rattle.lsys_syntax.specs.LineMachine.{State, InAxiom, Symbols, line_step, is_stop, line_depth, nesting_bound, Verdict, sentence, stops, too_deep, sentence_or_stop, finish, verdict_from}
 use Rattle.lsys_syntax.specs.LineMachine as L
 use Rattle.std.specs.Prelude.{Option, Some, None}
@@ -28,9 +28,9 @@ sentence-anywhere (k ∷ ks) m n s c e =
     (sentence-anywhere ks (m + 1) (n + 1) (line_step s k) c) (sym (verdict-tests m s k ks) ∙ e)
 
 -- the tokens of a string after a blank
-pub behind-string : (xs : List (Symbol Signed)) → kinds_of (string_behind xs) ≡ kinds_of (string_pieces signed_pieces xs)
-behind-string [] = refl
-behind-string (x ∷ xs) = refl
+pub after-string : (xs : List (Symbol Signed)) → kinds_of (string_after xs) ≡ kinds_of (string_pieces signed_pieces xs)
+after-string [] = refl
+after-string (x ∷ xs) = refl
 
 -- The tokens are the spelling of the symbols, whose parameters are of 64 bits.
 pub record IsStringOf (ks : List Kind) (xs : List (Symbol Signed)) : Type 0 where
@@ -43,10 +43,10 @@ string-spelled ks n xs g e =
     let read : L.verdict line ≡ sentence (set_axiom xs) = sentence-anywhere ks n 1 (InAxiom (Symbols [])) (set_axiom xs) e in
     let front : IsToken (Word (codes "axiom")) = (refl, (refl, (refl, (refl, (refl, tt)))), omega arith) in
     let is : IsSpelled 32 line (set_axiom xs) = sentence-spelled line (set_axiom xs) (front, g) read in
-    record { spelled = sym (behind-string xs) ∙ cc; symbols = is.1.0 }
+    record { spelled = sym (after-string xs) ∙ cc; symbols = is.1.0 }
 
 -- the same from a place on
-pub tokens-behind : (n : ℕ) (ks : List Kind) → AreTokens ks → AreTokens (drop n ks)
-tokens-behind zero ks h = h
-tokens-behind (suc n) [] h = tt
-tokens-behind (suc n) (k ∷ ks) h = tokens-behind n ks h.1
+pub tokens-after : (n : ℕ) (ks : List Kind) → AreTokens ks → AreTokens (drop n ks)
+tokens-after zero ks h = h
+tokens-after (suc n) [] h = tt
+tokens-after (suc n) (k ∷ ks) h = tokens-after n ks h.1

@@ -13,7 +13,7 @@ use Rattle.lsys_laws.specs.StringPlaces.{IsString, BeginsString, axiom_verdict}
 use Rattle.lsys_laws.proofs.StringsTold.{string_read, string_told, string_before, string_at}
 use Rattle.lsys_module.specs.Places.{kinds_from, kinds_between}
 use Rattle.lsys_module.specs.Scanning.{string_verdict}
-use Rattle.lsys_module.proofs.Spelled.{sentence-anywhere, tokens-behind}
+use Rattle.lsys_module.proofs.Spelled.{sentence-anywhere, tokens-after}
 
 -- the verdict on the same tokens, so many places further on
 abbrev moved : ℕ → Verdict → Verdict
@@ -63,7 +63,7 @@ module _ (tokens : List Token) (from : ℕ) where
   read_as_string forms xs e =
       let ks = kinds_from from tokens in
       let read : axiom_verdict ks ≡ sentence (set_axiom xs) = sentence-anywhere ks from 1 (InAxiom (Symbols [])) (set_axiom xs) e in
-      let told = string_told ks (set_axiom xs) (tokens-behind from (kind_row tokens) forms) read in
+      let told = string_told ks (set_axiom xs) (tokens-after from (kind_row tokens) forms) read in
       (told.0, told.2)
 
   placed : (place : ℕ) → string_verdict from tokens ≡ stops place → Stands from place (axiom_verdict (kinds_from from tokens))
@@ -76,7 +76,7 @@ module _ (tokens : List Token) (from : ℕ) where
 -- what a refused place tells
 pub record Refused (tokens : List Token) (from place : ℕ) : Type 0 where
   pub no_string : IsString (kinds_from from tokens) → ⊥
-  pub behind : from ≤ place
+  pub after : from ≤ place
   pub before : AreTokens (kind_row tokens) → BeginsString (kinds_between from place tokens)
   pub none_goes_on : place < length tokens → BeginsString (kinds_between from (place + 1) tokens) → ⊥
 
@@ -87,12 +87,12 @@ pub refused : (tokens : List Token) (from place : ℕ) → string_verdict from t
 refused tokens from place e =
     let ks = kinds_from from tokens in
     let p = placed tokens from place e in
-    let behind : place - from ≡ p.0 = omega (arith, p.1) in
+    let after : place - from ≡ p.0 = omega (arith, p.1) in
     let over : place + 1 - from ≡ suc p.0 = omega (arith, p.1) in
     let size : length ks ≡ length tokens - from = length-drop from (kind_row tokens) ∙ ap (λ n. n - from) (length-map tokens (λ (t : Token). kind_of t.kind)) in
     record {
       no_string = λ s. no_sentence (axiom_verdict ks) (set_axiom s.0) (suc p.0) (string_read ks s.0 s.1) p.2;
-      behind = omega (arith, p.1);
-      before = λ forms. subst (λ n. BeginsString (take n ks)) (sym behind) (string_before ks p.0 (tokens-behind from (kind_row tokens) forms) p.2);
+      after = omega (arith, p.1);
+      before = λ forms. subst (λ n. BeginsString (take n ks)) (sym after) (string_before ks p.0 (tokens-after from (kind_row tokens) forms) p.2);
       none_goes_on = λ l b. string_at ks p.0 p.2 (omega (arith, p.1, size, l)) (subst (λ n. BeginsString (take n ks)) over b);
     }

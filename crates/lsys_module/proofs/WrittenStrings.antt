@@ -11,7 +11,7 @@ use Rattle.lsys_syntax.proofs.LineComplete.{command-sentence}
 use Rattle.lsys_spec.specs.Systems.{written}
 use Rattle.lsys_spec.proofs.ShownBack.{written-symbols, written-balanced}
 use Rattle.lsys_module.specs.ReadBack.{tokens_verdict, text_verdict}
-use Rattle.lsys_module.proofs.Spelled.{behind-string, sentence-anywhere}
+use Rattle.lsys_module.proofs.Spelled.{after-string, sentence-anywhere}
 
 more-written : (zs : List ℤ) → more_pieces value_pieces zs ≡ more_pieces signed_pieces (map signed_of zs)
 more-written [] = refl
@@ -45,9 +45,9 @@ string-written (Cut ∷ xs) = ap (λ ps. note a_symbol ∷ token Percent ∷ ps)
 spelled-string : (place : ℕ) (xs : List (Symbol Signed)) → IsCommand (set_axiom xs) → verdict_from place (InAxiom (Symbols [])) (kinds_of (string_pieces signed_pieces xs)) ≡ sentence (set_axiom xs)
 spelled-string place xs g =
     let line : verdict (kinds_of (command_pieces (set_axiom xs))) ≡ sentence (set_axiom xs) = command-sentence (set_axiom xs) g (omega arith) in
-    let behind : verdict_from 1 (InAxiom (Symbols [])) (kinds_of (string_pieces signed_pieces xs)) ≡ sentence (set_axiom xs) =
-    ap (verdict_from 1 (InAxiom (Symbols []))) (sym (behind-string xs)) ∙ line in
-    sentence-anywhere (kinds_of (string_pieces signed_pieces xs)) 1 place (InAxiom (Symbols [])) (set_axiom xs) behind
+    let after : verdict_from 1 (InAxiom (Symbols [])) (kinds_of (string_pieces signed_pieces xs)) ≡ sentence (set_axiom xs) =
+    ap (verdict_from 1 (InAxiom (Symbols []))) (sym (after-string xs)) ∙ line in
+    sentence-anywhere (kinds_of (string_pieces signed_pieces xs)) 1 place (InAxiom (Symbols [])) (set_axiom xs) after
 
 -- A printed string is read as what it would be written as.
 pub string-read : (xs : List (Symbol ℤ)) (start place : ℕ) → AreSymbols xs → balanced 0 xs ≡ true → text_verdict start place (string_text xs) ≡ Some (sentence (set_axiom (written xs)))

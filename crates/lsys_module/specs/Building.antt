@@ -123,13 +123,13 @@ draft_by_part (parts.MinusRead m) ys = minus_read ys (module_name m.name) m.para
 draft_by_part (parts.NumberRead m) ys = number_read ys (module_name m.name) m.params
 
 -- the last module goes on so with a token, where a number or a sign was due
-abbrev pub IsPartBehindDue : CodeModule → StringGlyph → BuiltPart → Type 0
-IsPartBehindDue m g part =
+abbrev pub IsPartAfterDue : CodeModule → StringGlyph → BuiltPart → Type 0
+IsPartAfterDue m g part =
     (ys : List (Symbol ℤ)) → before_number_step ys (module_name m.name) m.params g ≡ Some (draft_by_part part ys)
 
 -- the last module goes on so with a token after a sign
-abbrev pub IsPartBehindMinus : CodeModule → StringGlyph → BuiltPart → Type 0
-IsPartBehindMinus m g part =
+abbrev pub IsPartAfterMinus : CodeModule → StringGlyph → BuiltPart → Type 0
+IsPartAfterMinus m g part =
     (ys : List (Symbol ℤ)) → after_minus_step ys (module_name m.name) m.params g ≡ Some (draft_by_part part ys)
 
 -- what was read, as the code keeps it

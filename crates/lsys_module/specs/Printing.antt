@@ -9,17 +9,17 @@ abbrev pub gap_text : Bool → Bool → List ℕ
 gap_text runs_on letter = text_of (gap runs_on letter)
 
 -- a name, after a blank where it needs one
-abbrev pub name_behind : Bool → ModuleName → List ℕ
-name_behind runs_on name = gap_text runs_on (is_letters name) ++ module_name_text name
+abbrev pub name_after : Bool → ModuleName → List ℕ
+name_after runs_on name = gap_text runs_on (is_letters name) ++ module_name_text name
 
 -- a symbol, after a blank where it needs one
-abbrev pub symbol_behind : {P : Type 0} → (P → List Piece) → Bool → Symbol P → List ℕ
-symbol_behind print runs_on s = gap_text runs_on (starts_with_letter s) ++ text_of (symbol_pieces print s)
+abbrev pub symbol_after : {P : Type 0} → (P → List Piece) → Bool → Symbol P → List ℕ
+symbol_after print runs_on s = gap_text runs_on (starts_with_letter s) ++ text_of (symbol_pieces print s)
 
 -- symbols, each after a blank where it needs one
-abbrev pub symbols_behind : {P : Type 0} → (P → List Piece) → Bool → List (Symbol P) → List ℕ
-symbols_behind print runs_on [] = []
-symbols_behind print runs_on (x ∷ xs) = symbol_behind print runs_on x ++ symbols_behind print (ends_in_name x) xs
+abbrev pub symbols_after : {P : Type 0} → (P → List Piece) → Bool → List (Symbol P) → List ℕ
+symbols_after print runs_on [] = []
+symbols_after print runs_on (x ∷ xs) = symbol_after print runs_on x ++ symbols_after print (ends_in_name x) xs
 
 -- the parameters of a module, in parentheses where there are any
 abbrev pub params_text : {P : Type 0} → (P → List Piece) → List P → List ℕ

@@ -2,7 +2,7 @@
 use Rattle.std.specs.Prelude.{ℕ, Bool, List, map}
 use Rattle.lsys_syntax.specs.Pieces.{Piece, text_of}
 use Rattle.lsys_syntax.specs.Strings as strings
-use Rattle.lsys_module.specs.Printing.{symbol_behind}
+use Rattle.lsys_module.specs.Printing.{symbol_after}
 use Rattle.lsys_module.specs.Views.{module_name}
 use Rattle.lsys_module.specs.declared.notation.Shape.{Shape}
 use Rattle.lsys_module.specs.declared.notation.Shape.TheVariants.{Push, Pop, Cut, Module}
@@ -21,8 +21,8 @@ pub record NotationOf (S P W : Type 0) : Type 0 where
   pub print : W → List Piece
 
 -- a symbol as it is printed, after a blank where it needs one
-abbrev pub behind_in : {S P W : Type 0} → NotationOf S P W → Bool → S → List ℕ
-behind_in way runs_on x = symbol_behind way.print runs_on (way.symbol x)
+abbrev pub after_in : {S P W : Type 0} → NotationOf S P W → Bool → S → List ℕ
+after_in way runs_on x = symbol_after way.print runs_on (way.symbol x)
 
 -- symbols as they are printed one after the other
 abbrev pub text_in : {S P W : Type 0} → NotationOf S P W → List S → List ℕ

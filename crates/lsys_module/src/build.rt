@@ -5,7 +5,7 @@ ghost use Rattle.lsys_syntax.specs.Sentences.{IsToken, AreTokens};
 ghost use Rattle.lsys_text.specs.Tokens.{kind_of, kind_row};
 ghost use Rattle.lsys_module.specs.Views.{module_name, string_of};
 ghost use Rattle.lsys_module.specs.Scanning.{string_verdict, TellsString, glyph_of};
-ghost use Rattle.lsys_module.specs.Building.{AreOfLine, IsBuiltBy, CanTake, IsTaken, draft_of, draft_end, before_number_step, after_minus_step, is_name, kind_name, IsPartBehindDue, IsPartBehindMinus};
+ghost use Rattle.lsys_module.specs.Building.{AreOfLine, IsBuiltBy, CanTake, IsTaken, draft_of, draft_end, before_number_step, after_minus_step, is_name, kind_name, IsPartAfterDue, IsPartAfterMinus};
 
 use crate::glyph::StringGlyph;
 use crate::params::Params;
@@ -82,27 +82,27 @@ impl Builder {
         let part = self.part;
         match part {
             BuiltPart::Whole => self.take_symbol(token),
-            BuiltPart::Named(name) => self.take_behind_name(name, token),
+            BuiltPart::Named(name) => self.take_after_name(name, token),
             BuiltPart::NumberDue(module) => {
                 if module.params.values().len() >= MOST_PARAMS {
                     return Err(too_many(token));
                 }
-                self.part = behind_due(module, StringGlyph::of(token.kind));
+                self.part = after_due(module, StringGlyph::of(token.kind));
                 Ok(())
             }
             BuiltPart::MinusRead(module) => {
-                self.part = behind_minus(module, StringGlyph::of(token.kind));
+                self.part = after_minus(module, StringGlyph::of(token.kind));
                 Ok(())
             }
-            BuiltPart::NumberRead(module) => self.take_behind_number(module, token),
+            BuiltPart::NumberRead(module) => self.take_after_number(module, token),
         }
     }
 
     // Reads a token after a name: parameters follow, or the name is a symbol.
-    fn take_behind_name(&mut self, name: Name, token: Token) -> Result<(), StringRefusal>
+    fn take_after_name(&mut self, name: Name, token: Token) -> Result<(), StringRefusal>
         requires form { IsToken (kind_of token.kind) }
         requires text { token.start < token.end }
-        requires behind_name { self.old.part ≡ BuiltPart.Named name }
+        requires after_name { self.old.part ≡ BuiltPart.Named name }
         requires goes_on { CanTake (draft_of self.old) (kind_of token.kind) }
         ensures { IsTaken (draft_of self.old) token (draft_of self.new) result }
     {
@@ -115,8 +115,8 @@ impl Builder {
     }
 
     // Reads a token after a parameter.
-    fn take_behind_number(&mut self, last: Module, token: Token) -> Result<(), StringRefusal>
-        requires behind_number { self.old.part ≡ BuiltPart.NumberRead last }
+    fn take_after_number(&mut self, last: Module, token: Token) -> Result<(), StringRefusal>
+        requires after_number { self.old.part ≡ BuiltPart.NumberRead last }
         requires goes_on { CanTake (draft_of self.old) (kind_of token.kind) }
         ensures { IsTaken (draft_of self.old) token (draft_of self.new) result }
     {
@@ -192,10 +192,10 @@ fn bare(name: Name) -> Module
 }
 
 // After a number or a sign that was due.
-fn behind_due(last: Module, glyph: StringGlyph) -> BuiltPart
+fn after_due(last: Module, glyph: StringGlyph) -> BuiltPart
     requires few { length last.params < 8 }
     requires goes_on { IsSome (before_number_step [] (module_name last.name) last.params glyph) }
-    ensures { IsPartBehindDue last glyph result }
+    ensures { IsPartAfterDue last glyph result }
 {
     match glyph {
         StringGlyph::Number(number) => BuiltPart::NumberRead(Module {
@@ -208,9 +208,9 @@ fn behind_due(last: Module, glyph: StringGlyph) -> BuiltPart
 }
 
 // After a number that follows a sign.
-fn behind_minus(last: Module, glyph: StringGlyph) -> BuiltPart
+fn after_minus(last: Module, glyph: StringGlyph) -> BuiltPart
     requires { IsSome (after_minus_step [] (module_name last.name) last.params glyph) }
-    ensures { IsPartBehindMinus last glyph result }
+    ensures { IsPartAfterMinus last glyph result }
 {
     match glyph {
         StringGlyph::Number(number) => BuiltPart::NumberRead(Module {

@@ -3,7 +3,7 @@ ghost use Rattle.std.specs.Prelude.{◌≡◌, ◌≤◌, length};
 ghost use Rattle.lsys_syntax.specs.Sentences.{AreTokens};
 ghost use Rattle.lsys_text.specs.Tokens.{kind_row};
 ghost use Rattle.lsys_module.specs.Scanning.{string_verdict, TellsString};
-ghost use Rattle.lsys_module.specs.Counting.{IsLimitPlace, counter_step, with_spot, with_symbol, with_param, spot_behind};
+ghost use Rattle.lsys_module.specs.Counting.{IsLimitPlace, counter_step, with_spot, with_symbol, with_param, spot_after};
 
 use crate::build::{MOST_PARAMS, MOST_SYMBOLS};
 use crate::glyph::StringGlyph;
@@ -25,7 +25,7 @@ pub fn first_many(tokens: &[Token], from: usize) -> Option<usize>
     };
     for place in from..tokens.len() {
         let token = tokens[place];
-        match counter.behind(StringGlyph::of(token.kind)) {
+        match counter.after(StringGlyph::of(token.kind)) {
             Some(next) => counter = next,
             None => return Some(place),
         }
@@ -39,7 +39,7 @@ pub(crate) enum CountSpot {
     /// Outside of parentheses, where none begin.
     Outside,
     /// After a name, where they may begin.
-    BehindName,
+    AfterName,
     /// In parentheses, where a parameter begins.
     ParamDue,
     /// In parentheses, after the first token of a parameter.
@@ -56,12 +56,12 @@ pub(crate) struct StringCounts {
 
 impl StringCounts {
     // The count after one more token, or None where that token is one too many.
-    fn behind(self, glyph: StringGlyph) -> Option<StringCounts>
+    fn after(self, glyph: StringGlyph) -> Option<StringCounts>
         ensures { result ≡ counter_step self glyph }
     {
         match (self.spot, glyph) {
-            (CountSpot::BehindName, StringGlyph::Open) => Some(self.with_spot(CountSpot::ParamDue)),
-            (CountSpot::BehindName | CountSpot::Outside, _) => self.with_symbol(spot_behind(glyph)),
+            (CountSpot::AfterName, StringGlyph::Open) => Some(self.with_spot(CountSpot::ParamDue)),
+            (CountSpot::AfterName | CountSpot::Outside, _) => self.with_symbol(spot_after(glyph)),
             (CountSpot::ParamDue, _) => self.with_param(),
             (CountSpot::InParam, StringGlyph::Comma) => Some(self.with_spot(CountSpot::ParamDue)),
             (CountSpot::InParam, StringGlyph::Close) => Some(self.with_spot(CountSpot::Outside)),
@@ -103,11 +103,11 @@ impl StringCounts {
 }
 
 // After a symbol's first token outside of parentheses.
-fn spot_behind(glyph: StringGlyph) -> CountSpot
-    ensures { result ≡ spot_behind glyph }
+fn spot_after(glyph: StringGlyph) -> CountSpot
+    ensures { result ≡ spot_after glyph }
 {
     match glyph {
-        StringGlyph::Name | StringGlyph::Minus => CountSpot::BehindName,
+        StringGlyph::Name | StringGlyph::Minus => CountSpot::AfterName,
         _ => CountSpot::Outside,
     }
 }

@@ -3,8 +3,8 @@ ghost use Rattle.std.specs.Prelude.{◌≡◌, IfOk, false, map};
 ghost use Rattle.lsys_syntax.specs.Strings.{AreSymbols, ends_in_name, string_text, value_pieces};
 ghost use Rattle.lsys_io.specs.Putting.{Puts};
 ghost use Rattle.lsys_module.specs.Views.{module_name, string_of, symbol_of};
-ghost use Rattle.lsys_module.specs.Printing.{gap_text, more_text, name_behind, params_text, runs_on_after};
-ghost use Rattle.lsys_module.specs.Shapes.{behind_in, text_in};
+ghost use Rattle.lsys_module.specs.Printing.{gap_text, more_text, name_after, params_text, runs_on_after};
+ghost use Rattle.lsys_module.specs.Shapes.{after_in, text_in};
 
 use crate::notation::{Notation, Shape};
 use crate::symbol::Symbol;
@@ -87,7 +87,7 @@ pub fn put_symbol<K: Sink, S, P, N: Notation<S, P>>(
     symbol: &S,
     runs_on: bool,
 ) -> Result<bool, Failed>
-    ensures put { Puts K.Sink sink out (behind_in N.way runs_on symbol.now) result }
+    ensures put { Puts K.Sink sink out (after_in N.way runs_on symbol.now) result }
     ensures runs_on { IfOk result (λ more. more ≡ ends_in_name (N.way.symbol symbol.now)) }
 {
     match N::shape(symbol) {
@@ -123,7 +123,7 @@ pub fn put_name<K: Sink>(
     name: Name,
     runs_on: bool,
 ) -> Result<bool, Failed>
-    ensures put { Puts K.Sink sink out (name_behind runs_on (module_name name)) result }
+    ensures put { Puts K.Sink sink out (name_after runs_on (module_name name)) result }
     ensures runs_on { IfOk result (λ more. more ≡ runs_on_after (module_name name)) }
 {
     let text = name.text();

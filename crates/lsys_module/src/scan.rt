@@ -40,7 +40,7 @@ pub fn scan_string(tokens: &[Token], from: usize) -> Result<(), PlaceRefusal>
     ensures verdict { IsScanned (string_verdict from tokens.now) result }
     ensures string { AreTokens (kind_row tokens.now) → OnOk result (IsStringFrom from tokens.now) }
     ensures no_string { OnErr result (IsStringFrom from tokens.now → ⊥) }
-    ensures behind { IfErr result (λ refusal. from ≤ refused_place refusal) }
+    ensures after { IfErr result (λ refusal. from ≤ refused_place refusal) }
     ensures within { IfErr result (λ refusal. refused_place refusal ≤ length tokens.now) }
     ensures before { AreTokens (kind_row tokens.now) → IfErr result (BeginsBefore from tokens.now) }
     ensures none_goes_on { IfErr result (NoneGoesOn from tokens.now) }
@@ -50,7 +50,7 @@ pub fn scan_string(tokens: &[Token], from: usize) -> Result<(), PlaceRefusal>
         branches: 0,
     };
     for place in from..tokens.len() {
-        match progress.behind(StringGlyph::of(tokens[place].kind)) {
+        match progress.after(StringGlyph::of(tokens[place].kind)) {
             Some(next) => progress = next,
             None => return Err(PlaceRefusal::Token { place }),
         }
@@ -65,14 +65,14 @@ pub fn scan_string(tokens: &[Token], from: usize) -> Result<(), PlaceRefusal>
 
 impl Progress {
     // One token on, where a string goes on with it.
-    fn behind(self, glyph: StringGlyph) -> Option<Progress>
+    fn after(self, glyph: StringGlyph) -> Option<Progress>
         requires { self.branches < usize.MAX }
         ensures step { result ≡ progress_step self glyph }
         ensures few { IfSome result (λ next. next.branches ≤ self.branches + 1) }
     {
         let branches = self.branches;
         match self.spot {
-            ScanSpot::Between { bare } => behind_symbol(glyph, bare, branches),
+            ScanSpot::Between { bare } => after_symbol(glyph, bare, branches),
             spot => in_parentheses(spot, glyph).map(|spot| Progress { spot, branches }),
         }
     }
@@ -88,7 +88,7 @@ impl Progress {
     }
 }
 
-fn behind_symbol(glyph: StringGlyph, bare: bool, branches: usize) -> Option<Progress>
+fn after_symbol(glyph: StringGlyph, bare: bool, branches: usize) -> Option<Progress>
     requires { branches < usize.MAX }
     ensures step { result ≡ between_step glyph bare branches }
     ensures few { IfSome result (λ next. next.branches ≤ branches + 1) }

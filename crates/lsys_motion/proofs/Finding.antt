@@ -122,10 +122,10 @@ near_first : (l : Lattice) (g h : Stand) (inner : Trees) (qs : List ImagePiece) 
     → IsNear (stand_from l h g) → IsNearTo l 0 qs n (stand_from l h g) → IsNearTo l 0 (record { symbols = length (stands_of l inner); pieces = inner_size l inner; start = g } ∷ qs) n h
 near_first l g h inner qs n a b c d = rw (a, b) (c, d)
 
-near_behind : (l : Lattice) (g h : Stand) (inner : Trees) (qs : List ImagePiece) (n : ℕ) → nat_lt n (length (stands_of l inner)) ≡ false
+near_after : (l : Lattice) (g h : Stand) (inner : Trees) (qs : List ImagePiece) (n : ℕ) → nat_lt n (length (stands_of l inner)) ≡ false
     → IsNearTo l 0 qs (n - length (stands_of l inner)) h
     → IsNearTo l 0 (record { symbols = length (stands_of l inner); pieces = inner_size l inner; start = g } ∷ (pieces_of l inner ++ qs)) n h
-near_behind l g h inner qs n a c =
+near_after l g h inner qs n a c =
     let e : inner_size l inner - 1 ≡ length (pieces_of l inner) = omega arith in
     rw (a, e) (near_past l (pieces_of l inner) qs (n - length (stands_of l inner)) h c)
 
@@ -141,7 +141,7 @@ near_in l g inner rest more n h near first second less false a =
     let many : length (stands_of l inner) ≤ n = grind (arith, nat_tests) in
     let size : length (map (stand_from l g) (stands_of l inner) ++ stands_of l rest) ≡ length (stands_of l inner) + length (stands_of l rest) =
     length-append (map (stand_from l g) (stands_of l inner)) (stands_of l rest) ∙ ap (λ j. j + length (stands_of l rest)) (length-map (stands_of l inner) (stand_from l g)) in
-    near_behind l g h inner (pieces_of l rest ++ more) n a (second (n - length (stands_of l inner)) (omega (arith, size, less, many)))
+    near_after l g h inner (pieces_of l rest ++ more) n a (second (n - length (stands_of l inner)) (omega (arith, size, less, many)))
 
 pub near_there : (l : Lattice) (t : Trees) (more : List ImagePiece) (n : ℕ) (h : Stand) (seen : Stand → Stand) → ((g : Stand) → seen g ≡ stand_from l h g) → AreNear l seen t → n < length (stands_of l t)
     → IsNearTo l 0 (pieces_of l t ++ more) n h
@@ -179,21 +179,21 @@ poses_there l t before (s ∷ after) e =
 
 -- 5. passed all at once
 
-pub found_behind : (l : Lattice) (k : ℕ) (ps : List ImagePiece) (n : ℕ) (h : Stand) → found l k ps n h ≡ found l 0 (drop k ps) n h
-found_behind l zero ps n h = refl
-found_behind l (suc k) [] n h = refl
-found_behind l (suc k) (p ∷ ps) n h = found_behind l k ps n h
+pub found_after : (l : Lattice) (k : ℕ) (ps : List ImagePiece) (n : ℕ) (h : Stand) → found l k ps n h ≡ found l 0 (drop k ps) n h
+found_after l zero ps n h = refl
+found_after l (suc k) [] n h = refl
+found_after l (suc k) (p ∷ ps) n h = found_after l k ps n h
 
-pub near_to_behind : (l : Lattice) (k : ℕ) (ps : List ImagePiece) (n : ℕ) (h : Stand) → IsNearTo l k ps n h → IsNearTo l 0 (drop k ps) n h
-near_to_behind l zero ps n h near = near
-near_to_behind l (suc k) [] n h near = tt
-near_to_behind l (suc k) (p ∷ ps) n h near = near_to_behind l k ps n h near
+pub near_to_after : (l : Lattice) (k : ℕ) (ps : List ImagePiece) (n : ℕ) (h : Stand) → IsNearTo l k ps n h → IsNearTo l 0 (drop k ps) n h
+near_to_after l zero ps n h near = near
+near_to_after l (suc k) [] n h near = tt
+near_to_after l (suc k) (p ∷ ps) n h near = near_to_after l k ps n h near
 
 pub found_skips : (l : Lattice) (ps : List ImagePiece) (p : ImagePiece) (qs rest : List ImagePiece) (n : ℕ) (h : Stand) → ps ≡ p ∷ qs → nat_lt n p.symbols ≡ false → rest ≡ drop (p.pieces - 1) qs
     → found l 0 rest (n - p.symbols) h ≡ found l 0 ps n h
 found_skips l ps p qs rest n h e past is =
     ap (λ rs. found l 0 rs (n - p.symbols) h) is
-    ∙ sym (found_behind l (p.pieces - 1) qs (n - p.symbols) h)
+    ∙ sym (found_after l (p.pieces - 1) qs (n - p.symbols) h)
     ∙ sym (skipped l p qs n h past)
     ∙ sym (ap (λ rs. found l 0 rs n h) e)
   where
@@ -204,7 +204,7 @@ pub near_skips : (l : Lattice) (ps : List ImagePiece) (p : ImagePiece) (qs rest 
     → IsNearTo l 0 ps n h → IsNearTo l 0 rest (n - p.symbols) h
 near_skips l ps p qs rest n h e past is near =
     subst (λ rs. IsNearTo l 0 rs (n - p.symbols) h) (sym is)
-    (near_to_behind l (p.pieces - 1) qs (n - p.symbols) h (skipped l p qs n h past (subst (λ rs. IsNearTo l 0 rs n h) e near)))
+    (near_to_after l (p.pieces - 1) qs (n - p.symbols) h (skipped l p qs n h past (subst (λ rs. IsNearTo l 0 rs n h) e near)))
   where
     skipped : (l : Lattice) (p : ImagePiece) (qs : List ImagePiece) (n : ℕ) (h : Stand) → nat_lt n p.symbols ≡ false → IsNearTo l 0 (p ∷ qs) n h → IsNearTo l (p.pieces - 1) qs (n - p.symbols) h
     skipped l p qs n h past k = rw past at k

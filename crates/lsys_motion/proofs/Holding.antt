@@ -36,8 +36,8 @@ map-map : {A B C : Type 0} (f : B → C) (g : A → B) (xs : List A) → map f (
 map-map f g [] = refl
 map-map f g (x ∷ xs) = ap (λ ys. f (g x) ∷ ys) (map-map f g xs)
 
-behind : {A : Type 0} (all before more xs : List A) → all ≡ before ++ more → all ++ xs ≡ before ++ (more ++ xs)
-behind all before more xs e = ap (λ ys. ys ++ xs) e ∙ append_assoc before more xs
+after : {A : Type 0} (all before more xs : List A) → all ≡ before ++ more → all ++ xs ≡ before ++ (more ++ xs)
+after all before more xs e = ap (λ ys. ys ++ xs) e ∙ append_assoc before more xs
 
 more_in : (l : Lattice) (p : Option ℕ) (m : OpenMark) (seen : Stand → Stand) (below : List ImagePiece → List Stand → Type 0) (ps : List ImagePiece) (hs : List Stand) (t : Trees)
     → ((qs : List ImagePiece) (gs : List Stand) → AreNear l seen t → below qs gs → below (qs ++ pieces_of l t) (gs ++ map seen (stands_of l t)))
@@ -51,9 +51,9 @@ more_in l (Some i) m seen below ps hs t more near h =
         trees = beside o.trees t;
         before = o.before;
         stands = o.stands;
-        pieces_are = behind ps o.before (unended m.stand ∷ pieces_of l o.trees) (pieces_of l t) o.pieces_are ∙ ap (λ qs. o.before ++ unended m.stand ∷ qs) (sym (pieces_beside l o.trees t));
+        pieces_are = after ps o.before (unended m.stand ∷ pieces_of l o.trees) (pieces_of l t) o.pieces_are ∙ ap (λ qs. o.before ++ unended m.stand ∷ qs) (sym (pieces_beside l o.trees t));
         stands_are =
-            behind hs o.stands (map (λ g. seen (stand_from l m.stand g)) (stands_of l o.trees)) (map (λ g. seen (stand_from l m.stand g)) (stands_of l t)) o.stands_are
+            after hs o.stands (map (λ g. seen (stand_from l m.stand g)) (stands_of l o.trees)) (map (λ g. seen (stand_from l m.stand g)) (stands_of l t)) o.stands_are
             ∙ ap (λ gs. o.stands ++ gs) (sym (map-append (λ g. seen (stand_from l m.stand g)) (stands_of l o.trees) (stands_of l t)) ∙ ap (map (λ g. seen (stand_from l m.stand g))) (sym (stands_beside l o.trees t)));
         number = o.number;
         count = o.count;

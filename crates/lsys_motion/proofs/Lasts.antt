@@ -13,7 +13,7 @@ use Rattle.lsys_spec.specs.Images.{ImageRefusal, image}
 use Rattle.lsys_spec.specs.Pictures.{Pose, Turtle, Segment, PictureRefusal, or_far, or_no_image, picture, segments_of}
 use Rattle.lsys_lattice.specs.Effects.{Walker, walked, stepped, first_walker}
 use Rattle.lsys_lattice.specs.Free.{pose_of, turtle_of}
-use Rattle.lsys_lattice.specs.Bounds.{bounds, bounds_of, turtle_after, turtle_at, turtle_behind}
+use Rattle.lsys_lattice.specs.Bounds.{bounds, bounds_of, turtle_after, turtle_at, turtle_or_refusal}
 use Rattle.lsys_lattice.proofs.Freely.{turtle_there, none_too_far}
 use Rattle.lsys_level.specs.Spots.{Spotted, spots_at, level_by}
 use Rattle.lsys_out.specs.Drawings.{last_symbols}
@@ -88,7 +88,7 @@ pub told_bounds : (s : System) (x : List LevelSymbol) (t : Track) → told s x �
 told_bounds s x t h =
     let w = is_way s.lattice (image s x) t h in ap (λ r. r and_then λ way. Ok (bounds_of s.lattice way.1)) w.is ∙ ap Ok w.bounds_are
 
-pub told_turtles : (s : System) (x : List LevelSymbol) (t : Track) (n : ℕ) → told s x ≡ Ok t → (turtle_behind s x n and_then λ o. Ok (pose_in o)) ≡ Ok (slice_get t.poses n)
+pub told_turtles : (s : System) (x : List LevelSymbol) (t : Track) (n : ℕ) → told s x ≡ Ok t → (turtle_or_refusal s x n and_then λ o. Ok (pose_in o)) ≡ Ok (slice_get t.poses n)
 told_turtles s x t n h =
     let w = is_way s.lattice (image s x) t h in
     ap (λ r. (r and_then λ way. Ok (turtle_at s.lattice n way.0)) and_then λ o. Ok (pose_in o)) w.is

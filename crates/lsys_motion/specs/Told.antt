@@ -7,11 +7,11 @@ use Rattle.lsys_spec.specs.Levels as L
 use Rattle.lsys_spec.specs.Lattices.{Lattice}
 use Rattle.lsys_spec.specs.Pictures.{Pose, Turtle, Stepped, PictureRefusal, at_start, picture, turtle_step}
 use Rattle.lsys_lattice.specs.Extents.{Extents}
-use Rattle.lsys_lattice.specs.Bounds.{bounds, bounds_of, travelled, turtle_behind}
+use Rattle.lsys_lattice.specs.Bounds.{bounds, bounds_of, travelled, turtle_or_refusal}
 
 pub record Track : Type 0 where
   pub bounds : Extents  -- of the origin and both ends of each segment
-  pub poses : List Pose  -- of the turtle behind no symbol of the image, behind one, and so on to all of them
+  pub poses : List Pose  -- of the turtle after no symbol of the image, after one, and so on to all of them
 
 abbrev pub poses_after : Option Stepped → (Turtle → List Pose) → List Pose
 poses_after None rest = []
@@ -38,7 +38,7 @@ TellsBounds =
 abbrev pub TellsTurtles : Type 0
 TellsTurtles =
     (s : System) (x : List L.LevelSymbol) (t : Track) (n : ℕ) → told s x ≡ Ok t
-    → (turtle_behind s x n and_then λ o. Ok (option_map (λ u. u.pose) o))
+    → (turtle_or_refusal s x n and_then λ o. Ok (option_map (λ u. u.pose) o))
     ≡ Ok (slice_get t.poses n)
 
 -- and it is refused as the picture is

@@ -7,8 +7,8 @@ use Rattle.lsys_motion.specs.Pieces.{ImagePiece, single, IsNear}
 -- side by side
 pub data Trees : Type 0 where
   none : Trees
-  symbol : Stand → Trees → Trees  -- one symbol, and what comes behind it
-  tree : Stand → Trees → Trees → Trees  -- what is in it, and what comes behind it
+  symbol : Stand → Trees → Trees  -- one symbol, and what comes after it
+  tree : Stand → Trees → Trees → Trees  -- what is in it, and what comes after it
 
 -- the stands before their symbols, one by one
 abbrev pub stands_of : Lattice → Trees → List Stand

@@ -25,14 +25,14 @@ pub(crate) fn stand_before<T: Lattice>(pieces: &[Piece<T>], symbol: u32) -> Stan
             rest = inner;
         } else {
             left -= piece.symbols;
-            rest = behind(inner, piece.pieces.saturating_sub(1));
+            rest = after(inner, piece.pieces.saturating_sub(1));
         }
     }
     here
 }
 
 /// What is after so many pieces.
-fn behind<T: Lattice>(pieces: &[Piece<T>], count: usize) -> &[Piece<T>]
+fn after<T: Lattice>(pieces: &[Piece<T>], count: usize) -> &[Piece<T>]
     ensures { result.now ≡ drop count pieces.now }
 {
     if count < pieces.len() {

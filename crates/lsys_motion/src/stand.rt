@@ -145,7 +145,7 @@ fn wide(place: &Place) -> Vector
 /// A coordinate after so many steps in a direction.
 fn moved(coordinate: i64, steps: i64, direction: i64) -> i64
     requires before { unsigned_abs coordinate ≤ 2 ^ 40 }
-    requires behind { unsigned_abs (coordinate +ℤ steps *ℤ direction) ≤ 2 ^ 40 }
+    requires after { unsigned_abs (coordinate +ℤ steps *ℤ direction) ≤ 2 ^ 40 }
     ensures { result ≡ coordinate +ℤ steps *ℤ direction }
 {
     coordinate + steps * direction

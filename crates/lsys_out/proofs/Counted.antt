@@ -7,7 +7,7 @@ use Rattle.lsys_spec.specs.Systems.{Homomorphism}
 use Rattle.lsys_spec.specs.Values.{Arith, ◌and_then◌}
 use Rattle.lsys_spec.specs.Levels.{LevelSymbol, Push, Pop, Module}
 use Rattle.lsys_spec.specs.Images.{ImageRefusal, ImageFault, ImageLimit, image_of, image_fault, within_image}
-use Rattle.lsys_hom.specs.Coming.{Coming, coming_from, modules_behind, symbol_image, coming_with}
+use Rattle.lsys_hom.specs.Coming.{Coming, coming_from, modules_after, symbol_image, coming_with}
 
 within_few : (k : ℕ) (zs ys : List (S.Symbol ℤ)) → within_image k zs ≡ Ok ys → k + length ys ≤ most_image_symbols
 within_few k zs ys h = by (nat_lt most_image_symbols (k + length zs)) refl h
@@ -38,4 +38,4 @@ told_few k (Err r) f l h g = omega (arith, l)
 
 pub few_from : (hs : List Homomorphism) (n k : ℕ) (x : List LevelSymbol) → k ≤ most_image_symbols → k + length (coming_from hs n k x).symbols ≤ most_image_symbols
 few_from hs n k [] l = omega (arith, l)
-few_from hs n k (s ∷ x) l = told_few k (symbol_image hs n k s) _ l (one_few hs n k s) (λ j h. few_from hs (modules_behind n s) (k + j) x h)
+few_from hs n k (s ∷ x) l = told_few k (symbol_image hs n k s) _ l (one_few hs n k s) (λ j h. few_from hs (modules_after n s) (k + j) x h)

@@ -47,7 +47,7 @@ one_deeper : (m o k x n : ℕ) → max m (max o x) ≡ n → o ≤ m → k ≤ x
 one_deeper m o k x n e h b = omega arith
 
 -- the nesting after a symbol, where so many branches are open before it, and so many were at most so far
-pub nested_behind : (x : S.Symbol ℤ) (most here n : ℕ) (old new : List (S.Symbol ℤ)) → old ≡ x ∷ new → max most (nesting_from here old) ≡ n → here ≤ most
+pub nested_after : (x : S.Symbol ℤ) (most here n : ℕ) (old new : List (S.Symbol ℤ)) → old ≡ x ∷ new → max most (nesting_from here old) ≡ n → here ≤ most
     → max (max most (saved_after x here)) (nesting_from (saved_after x here) new) ≡ n
-nested_behind x most here n old new is e h =
+nested_after x most here n old new is e h =
     one_deeper most here (saved_after x here) (nesting_from (saved_after x here) new) n (ap (λ xs. max most (nesting_from here xs)) (sym is) ∙ e) h (nested_here (saved_after x here) new)

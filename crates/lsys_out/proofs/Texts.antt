@@ -55,8 +55,8 @@ svg-text l gs b e =
     ∙ ap (λ t. t ++ (flat_map (drawn_line l) gs ++ codes "</svg>\n")) (svg-head b)
 
 -- the lines of the segments that are still to come, the first one apart
-pub lines-behind : (l : Lattice) (now : Drawing) (g : Segment) (next : Drawing) → now ≡ with_first g next
+pub lines-after : (l : Lattice) (now : Drawing) (g : Segment) (next : Drawing) → now ≡ with_first g next
     → flat_map (drawn_line l) now.segments ++ codes "</svg>\n" ≡ drawn_line l g ++ (flat_map (drawn_line l) next.segments ++ codes "</svg>\n")
-lines-behind l now g next e =
+lines-after l now g next e =
     ap (λ (d : Drawing). flat_map (drawn_line l) d.segments ++ codes "</svg>\n") e
     ∙ append_assoc (drawn_line l g) (flat_map (drawn_line l) next.segments) (codes "</svg>\n")

@@ -23,14 +23,14 @@ pub fn image_nesting<W: LevelView>(view: &W, system: &System) -> Result<usize, I
     let mut open = 0usize;
     let mut most = 0usize;
     while let Some(seen) = image.look()? {
-        open = open_behind(open, seen);
+        open = open_after(open, seen);
         most = most.max(open);
     }
     Ok(most)
 }
 
 /// How many branches are open after a symbol, where so many are before it.
-fn open_behind(before: usize, seen: Glance) -> usize
+fn open_after(before: usize, seen: Glance) -> usize
     requires { before < most_image_symbols }
     ensures { result ≡ saved_after (looked_at seen) before }
 {

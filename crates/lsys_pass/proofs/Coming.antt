@@ -34,7 +34,7 @@ module _ (v v' : PassView) (t : ℕ) (pass : IsPass v') (g : Goes (stage_of v) (
   sound' = AreSound-now v'.forest.root (changes_in v'.forest) (now_in v') pass.stored.sound
 
   at_level : Origin v t → IsReadyToAsk v' t → IsAtLevel (stage_of v') t
-  at_level (Origin.behind w u e a before) x =
+  at_level (Origin.after w u e a before) x =
       let sound = AreSound-now w.forest.root (changes_in w.forest) (now_in w) a.pass.stored.sound in
       let whole = goes_on (stage_of w) (stage_of v) (stage_of v') t before g in
       let made = subst (Makes (stage_of w) (stage_of v')) e (makes (stage_of v') t x.lists (stage_of w) whole) in
@@ -47,7 +47,7 @@ module _ (v v' : PassView) (t : ℕ) (pass : IsPass v') (g : Goes (stage_of v) (
       subst (IsAtLevel (stage_of v')) (sym e) (starts_first (stage_of w) (stage_of v') still known begun (subst (Advances (stage_of v')) e x.advances))
 
   at_end : Origin v t → IsLast v' t → IsDone (stage_of v')
-  at_end (Origin.behind w u e a before) x =
+  at_end (Origin.after w u e a before) x =
       let sound = AreSound-now w.forest.root (changes_in w.forest) (now_in w) a.pass.stored.sound in
       let whole = goes_on (stage_of w) (stage_of v) (stage_of v') t before g in
       let made = subst (Makes (stage_of w) (stage_of v')) e (makes (stage_of v') t x.lists (stage_of w) whole) in
@@ -148,8 +148,8 @@ was_asked v v' t h state pending faults same = subst (λ (w : PassView). WasAske
     again v t x = record { front = x.front; within = x.within; before = x.before; here = x.here; room = x.room }
 
 -- it is made from a level of which all was asked
-pub from_behind : (v v' : PassView) (t : ℕ) → WasAsked v t → Goes (stage_of v) (stage_of v') (t + 1) → Origin v' (t + 1)
-from_behind v v' t a g = Origin.behind v t (omega arith) a g
+pub from_after : (v v' : PassView) (t : ℕ) → WasAsked v t → Goes (stage_of v) (stage_of v') (t + 1) → Origin v' (t + 1)
+from_after v v' t a g = Origin.after v t (omega arith) a g
 
 -- the sizes of its levels
 pub sizes_made : (v w v' : PassView) (t : ℕ) (b : Bool) → WasAsked v t → now_in w ≡ now_in v → w.forest.root ≡ v.forest.root → Goes (stage_of w) (stage_of v') (t + 1) → (b ≡ false → AreClosed (kept_successors (now_in w)) (row_of w t)) → v'.made ≡ with_level (with_open v.made b) (length (row_of v' (t + 1))) → HaveSizesTo (now_in v') v'.forest.root v'.made (t + 1)

@@ -193,8 +193,8 @@ module _ (v : PassView) (h : IsPass v) (q : IsQuiet v) where
   -- 5. all of them
 
   -- after the last level there are no nodes
-  pub none_behind : (t : ℕ) → v.system.depth + 1 ≤ t → level_nodes (now_in v) v.forest.root t ≡ []
-  none_behind t g = none_past v.system v.limit (now_in v) v.forest.root v.store v.reads v.seats r t (let c = levels_many in omega (arith, c, g))
+  pub none_after : (t : ℕ) → v.system.depth + 1 ≤ t → level_nodes (now_in v) v.forest.root t ≡ []
+  none_after t g = none_past v.system v.limit (now_in v) v.forest.root v.store v.reads v.seats r t (let c = levels_many in omega (arith, c, g))
 
   pub nodes_at : (t : ℕ) → t < v.system.depth + 1 → length (level_nodes (now_in v) v.forest.root t) ≡ length (spots_at (pass_levels v) t)
   nodes_at t l = sym (length-map (level_nodes (now_in v) v.forest.root t) (λ k. spot_in k (now_in v k))) ∙ sym (ap (length {A = Spotted}) (told_at t l))
@@ -206,7 +206,7 @@ module _ (v : PassView) (h : IsPass v) (q : IsQuiet v) where
       long : (t : ℕ) → length (level_nodes (now_in v) v.forest.root t) ≡ length (spots_at (pass_levels v) t)
       long t = elim (cases_lt t (v.system.depth + 1)) [
         | inl l ↦ nodes_at t l
-        | inr g ↦ ap (length {A = ℕ}) (none_behind t g) ∙ sym (ap (length {A = Spotted}) (none_at t g))
+        | inr g ↦ ap (length {A = ℕ}) (none_after t g) ∙ sym (ap (length {A = Spotted}) (none_at t g))
       ]
 
   -- 6. what is kept
@@ -220,7 +220,7 @@ module _ (v : PassView) (h : IsPass v) (q : IsQuiet v) where
           let on = reached_on (now_in v) v.forest.root t k h in
           elim (cases_lt t (v.system.depth + 1)) [
             | inl l ↦ inr (t, omega (arith, l), on)
-            | inr g ↦ absurd (subst (In k) (none_behind t g) on)
+            | inr g ↦ absurd (subst (In k) (none_after t g) on)
           ]
 
   pub levels_alone : KeepsLevelsAlone v

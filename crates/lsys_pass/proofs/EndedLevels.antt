@@ -21,7 +21,7 @@ use Rattle.lsys_pass.specs.Lasts.{dropped_at_end}
 use Rattle.lsys_pass.specs.Passes.{PassView, stage_of, now_in, rest_in, repair_of, IsPass}
 use Rattle.lsys_pass.specs.Fresh.{row_of, Goes, HasFound, IsLast}
 use Rattle.lsys_pass.proofs.Failing.{still_failed, stored_less}
-use Rattle.lsys_pass.proofs.Endings.{sound_was, is_last, is_behind, is_last_level, goes, rows_stay, EndsBy, ends_by, ends_bare, dropped_are}
+use Rattle.lsys_pass.proofs.Endings.{sound_was, is_last, is_after, is_last_level, goes, rows_stay, EndsBy, ends_by, ends_bare, dropped_are}
 
 -- as another view of the pass tells it
 
@@ -61,7 +61,7 @@ module _ (w v : PassView) (same : w ≡ v) (h : IsPass w) (t : ℕ) (small : t <
   pub bare_last : w.system.depth ≤ t → v.next.depth ≡ t → IsLast v t
   bare_last l depth =
       subst (λ z. IsLast z t) same
-      (is_last w t need.0 need.1 h found_by w.forest [] w.dropped (ends_bare (repair_of w t) found_by.made.spots (is_behind w t need.0 need.1 h found_by l)) (sym (append-nil w.dropped)) (depth_by depth) small)
+      (is_last w t need.0 need.1 h found_by w.forest [] w.dropped (ends_bare (repair_of w t) found_by.made.spots (is_after w t need.0 need.1 h found_by l)) (sym (append-nil w.dropped)) (depth_by depth) small)
 
   module _ (f : Grove Kept) (ds : List ℕ) (loses : LosesOnly w.forest f) where
     pub failed_still : v.state ≡ Failed → AreSound f.root (changes_in f) (now_of f) → IsPass (record w { forest = f; dropped = ds })
@@ -79,7 +79,7 @@ module _ (w v : PassView) (same : w ≡ v) (h : IsPass w) (t : ℕ) (small : t <
 
     pub comes_to_end : (gone : List ℕ) (levels : ℕ) → gone ≡ w.front.changes.gone → levels ≡ w.system.depth - t → v.next.depth ≡ t → AreEnded (now_in w) (now_of f) (row_of w t)
         → ds ≡ w.dropped ++ dropped_at_end (now_in w) (now_of f) (row_of w t) gone levels → ComesToEnd v (record w { forest = f; dropped = ds }) t
-    comes_to_end gone levels is behind depth e lists =
+    comes_to_end gone levels is after depth e lists =
         subst (λ z. ComesToEnd z (record w { forest = f; dropped = ds }) t) same (record {
           last = is_last w t need.0 need.1 h found_by f more ds x more_are (depth_by depth) small;
           goes = goes w t need.0 need.1 h found_by f more ds x more_are;
@@ -95,7 +95,7 @@ module _ (w v : PassView) (same : w ≡ v) (h : IsPass w) (t : ℕ) (small : t <
         x : EndsBy (repair_of w t) f more
         x =
             subst (EndsBy (repair_of w t) f)
-            (sym (ap (λ (ks : List ℕ). dropped_at_end (now_in w) (now_of f) (row_of w t) ks levels) is ∙ dropped_are (repair_of w t) w.front.changes f l e levels behind)) (ends_by (repair_of w t) w.front.changes f l e loses.root loses.rest)
+            (sym (ap (λ (ks : List ℕ). dropped_at_end (now_in w) (now_of f) (row_of w t) ks levels) is ∙ dropped_are (repair_of w t) w.front.changes f l e levels after)) (ends_by (repair_of w t) w.front.changes f l e loses.root loses.rest)
 
         more_are : ds ≡ w.dropped ++ more
         more_are = lists

@@ -28,9 +28,9 @@ use Rattle.lsys_front.specs.Repairs.{Repair, are}
 use Rattle.lsys_front.specs.Repairs as R
 use Rattle.lsys_front.specs.Found.{LevelChanges}
 use Rattle.lsys_front.specs.Ends.{ended_node, AreEnded, is_answered, answered_in, rows_from}
-use Rattle.lsys_front.specs.LastLevels.{IsLevelEnded, IsBehindAll, IsLastLevel, HadAnswerBehind, HasAllBehind, all_below}
+use Rattle.lsys_front.specs.LastLevels.{IsLevelEnded, IsAfterAll, IsLastLevel, HadAnswerAfter, HasAllAfter, all_below}
 use Rattle.lsys_front.proofs.RowsBelow.{filter_in, in_filter, filter_apart, answered, is_answered_by}
-use Rattle.lsys_front.proofs.LastLevels.{is_ended, is_bare, has_behind}
+use Rattle.lsys_front.proofs.LastLevels.{is_ended, is_bare, has_after}
 use Rattle.lsys_pass.specs.Lasts.{dropped_at_end}
 use Rattle.lsys_pass.specs.Stages.{Stage, Rests}
 use Rattle.lsys_pass.specs.Advances.{KeepsRest, HasLastLevel}
@@ -51,9 +51,9 @@ pub record EndsBy (r : Repair) (f : Grove Kept) (more : List ℕ) : Type 0 where
   pub apart : AreApart more
   pub dropped : (k : ℕ) → In k more
       → (In k (are r) × (a : Kept) × (answer_at (R.now r) k ≡ Some a))
-      ⊎ (HadAnswerBehind r k × (Reached (now_of f) (R.root r) k → ⊥))
+      ⊎ (HadAnswerAfter r k × (Reached (now_of f) (R.root r) k → ⊥))
   pub here : (k : ℕ) (a : Kept) → In k (are r) → answer_at (R.now r) k ≡ Some a → In k more
-  pub behind : (k : ℕ) → HadAnswerBehind r k → In k more
+  pub after : (k : ℕ) → HadAnswerAfter r k → In k more
 
 was_some : (o : Option (Node Kept)) (n : Node Kept) → option_map ended_node o ≡ Some n → (p : Node Kept) × (o ≡ Some p)
 was_some None n e = absurd (none-some n e)
@@ -70,8 +70,8 @@ module _ (r : Repair) (c : LevelChanges) (f : Grove Kept) (l : IsLastLevel r c) 
   ends : IsLevelEnded r m
   ends = is_ended r m l.spots e
 
-  all : HasAllBehind r c m
-  all = has_behind r c m l e
+  all : HasAllAfter r c m
+  all = has_after r c m l e
 
   abbrev rows : List ℕ
   rows = rows_from m (r.old.depth - r.level) (all_below r c)
@@ -97,7 +97,7 @@ module _ (r : Repair) (c : LevelChanges) (f : Grove Kept) (l : IsLastLevel r c) 
       | inr b ↦ inr ((all.answers k).0 b, all.unreached (r.old.depth - r.level) k (filter_in (is_answered m) rows k b).0)
     ];
     here = λ k a i is. In_left k (answered_in (R.now r) (are r)) (answered_in m rows) (in_filter (is_answered (R.now r)) (are r) k i (is_answered_by (R.now r) k a is));
-    behind = λ k h. In_right k (answered_in (R.now r) (are r)) (answered_in m rows) ((all.answers k).1 h);
+    after = λ k h. In_right k (answered_in (R.now r) (are r)) (answered_in m rows) ((all.answers k).1 h);
   }
 
   -- as the forest tells it
@@ -107,7 +107,7 @@ module _ (r : Repair) (c : LevelChanges) (f : Grove Kept) (l : IsLastLevel r c) 
       ∙ ap (λ (ks : List ℕ). answered_in (R.now r) (are r) ++ answered_in m (rows_from m (r.old.depth - r.level) (kids_below (R.now r) (are r) ++ ks))) all.gone
 
 -- or they had nothing
-pub ends_bare : (r : Repair) → (s : R.SteppingSpots r) → IsBehindAll r → EndsBy r r.forest []
+pub ends_bare : (r : Repair) → (s : R.SteppingSpots r) → IsAfterAll r → EndsBy r r.forest []
 ends_bare r s b =
     let e : IsLevelEnded r (R.now r) = is_bare r s b in
     record {
@@ -118,7 +118,7 @@ ends_bare r s b =
       apart = tt;
       dropped = λ k none. absurd none;
       here = λ k a i is. absurd (none-some a (sym (e.no_answers k i) ∙ is));
-      behind = λ k h. absurd (let one = h.behind in let two = h.within in let three = b.depth in omega (arith, one, two, three));
+      after = λ k h. absurd (let one = h.after in let two = h.within in let three = b.depth in omega (arith, one, two, three));
     }
 
 -- 2. a pass at that level
@@ -145,8 +145,8 @@ module _ (v : PassView) (t : ℕ) (beside readers : List ℕ) (h : IsPass v) (fo
   is_last_level = record { spots = found.made.spots; deeper = found.made.deeper; differs = found.front.differs; gone_once = found.front.gone_once }
 
   -- the last rest had no answers from this level on
-  pub is_behind : v.system.depth ≤ t → IsBehindAll (repair_of v t)
-  is_behind l = record {
+  pub is_after : v.system.depth ≤ t → IsAfterAll (repair_of v t)
+  is_after l = record {
     deeper = found.made.deeper;
     depth = l;
     ends = ap (level_nodes (rest_in v) v.forest.root) (sym (count_is v.system v.limit (rest_in v) v.forest.root v.store v.reads v.seats rests)) ∙ rests.ends;
@@ -220,7 +220,7 @@ module _ (v : PassView) (t : ℕ) (beside readers : List ℕ) (h : IsPass v) (fo
           let d = found.dropped k i in
           let same : d.0 ≡ q.0.level = one_was d.0 q.0.level k d.2 q.0.there in
           let one = d.1 in
-          let two = q.0.behind in
+          let two = q.0.after in
           absurd (omega (arith, same, one, two))
           )
     ]
@@ -330,9 +330,9 @@ module _ (v : PassView) (t : ℕ) (beside readers : List ℕ) (h : IsPass v) (fo
       where
         by : answer_at (rest_in v) k ≡ Some a → (w : ℕ) → In k (level_nodes (rest_in v) v.forest.root w) → Reached (now_of f) f.root k ⊎ In k ds
         by g w on = elim (cases_lt t w) [
-          | inl far ↦ inr (more_in k (x.behind k (record {
+          | inl far ↦ inr (more_in k (x.after k (record {
             level = w;
-            behind = far;
+            after = far;
             within = let l = is_below v.system v.limit (rest_in v) v.forest.root v.store v.reads v.seats rests w k a on g in omega (arith, l);
             there = on;
             answer = a;

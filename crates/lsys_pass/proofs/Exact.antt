@@ -12,7 +12,7 @@ use Rattle.lsys_pass.specs.Stages.{IsAtLevel}
 use Rattle.lsys_pass.specs.Passes.{PassView, stage_of, IsPass}
 use Rattle.lsys_pass.specs.Moves.{SameRun}
 use Rattle.lsys_pass.specs.Fresh.{WasAsked, WasJustMade}
-use Rattle.lsys_pass.specs.Refusals.{RefusesBehind, IsFaultOn, IsLimitRefusal}
+use Rattle.lsys_pass.specs.Refusals.{RefusesAfter, IsFaultOn, IsLimitRefusal}
 use Rattle.lsys_pass.proofs.Asking.{at}
 use Rattle.lsys_pass.proofs.Limits.{there_asked}
 use Rattle.lsys_pass.proofs.Telling.{TellsNext, next_exact, tells_fault, tells_limit, fault_why, limit_why}
@@ -27,15 +27,15 @@ module _ (v : PassView) (t : ℕ) (h : IsPass v) (state : v.state ≡ Level t) w
   fault_refuses = fault_why v.next v.limit t a.tree.spelled a.tree.is a.tree.below
 
   module _ (T : Type 0) where
-    exact : (r : Result T DeriveRefusal) → TellsNext v.next v.limit t a.tree.spelled a.tree.is r → RefusesBehind v v.state r
-    exact r x = subst (λ s. RefusesBehind v s r) (sym state) (next_exact v.next v.limit t a.tree.spelled a.tree.is T r x)
+    exact : (r : Result T DeriveRefusal) → TellsNext v.next v.limit t a.tree.spelled a.tree.is r → RefusesAfter v v.state r
+    exact r x = subst (λ s. RefusesAfter v s r) (sym state) (next_exact v.next v.limit t a.tree.spelled a.tree.is T r x)
 
-    pub fault_exact : (x : DeriveRefusal) → IsFaultOn v.next v.limit t x → RefusesBehind {T = T} v v.state (Err x)
+    pub fault_exact : (x : DeriveRefusal) → IsFaultOn v.next v.limit t x → RefusesAfter {T = T} v v.state (Err x)
     fault_exact x e = exact (Err x) (tells_fault v.next v.limit t a.tree.spelled a.tree.is T x e)
 
     -- 2. or the next one was made
 
-    pub made_exact : (x : PassView) → SameRun v x → WasJustMade x (t + 1) → (y : T) → RefusesBehind v v.state (Ok y)
+    pub made_exact : (x : PassView) → SameRun v x → WasJustMade x (t + 1) → (y : T) → RefusesAfter v v.state (Ok y)
     made_exact x run m y = exact (Ok y) told
       where
         told : (xs : List (List LevelSymbol)) × (meaning_to v.next v.limit (t + 1) ≡ Ok xs)
@@ -54,8 +54,8 @@ module _ (v : PassView) (t : ℕ) (h : IsPass v) (state : v.state ≡ Level t) w
     pub limit_refuses : (x : DeriveRefusal) → IsLimitRefusal w.next w.limit (t + 1) x → IsLevelRefusal v.next v.limit x
     limit_refuses x e = limit_why v.next v.limit t a.tree.spelled a.tree.is a.tree.below x (limit_here x e)
 
-    pub limit_exact : (T : Type 0) (x : DeriveRefusal) → IsLimitRefusal w.next w.limit (t + 1) x → RefusesBehind {T = T} v v.state (Err x)
+    pub limit_exact : (T : Type 0) (x : DeriveRefusal) → IsLimitRefusal w.next w.limit (t + 1) x → RefusesAfter {T = T} v v.state (Err x)
     limit_exact T x e = exact T (Err x) (tells_limit v.next v.limit t a.tree.spelled a.tree.is T there.0 there.1 x (limit_here x e))
 
-    pub memory_exact : (T : Type 0) → RefusesBehind {T = T} v v.state (Err Memory)
+    pub memory_exact : (T : Type 0) → RefusesAfter {T = T} v v.state (Err Memory)
     memory_exact T = exact T (Err Memory) there

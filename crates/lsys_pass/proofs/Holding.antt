@@ -21,7 +21,7 @@ use Rattle.lsys_pass.specs.Passes.{PassView, now_in, IsPass}
 use Rattle.lsys_pass.specs.Views.{pass_levels, IsQuiet}
 use Rattle.lsys_pass.proofs.Before.{reached_on}
 use Rattle.lsys_pass.proofs.Counting.{same_length}
-use Rattle.lsys_pass.proofs.Deriving.{rest_now, count, nodes_at, none_behind}
+use Rattle.lsys_pass.proofs.Deriving.{rest_now, count, nodes_at, none_after}
 
 -- 1. the numbers of slots that aren't empty
 
@@ -160,7 +160,7 @@ module _ (v : PassView) (h : IsPass v) (q : IsQuiet v) where
         | inl e ↦ inl e
         | inr on ↦ inr (elim (cases_lt on.0 levels) [
           | inl l ↦ among_level (now_in v) v.forest.root (changes_in v.forest) sound levels on.0 k l on.1
-          | inr g ↦ absurd (subst (In k) (none_behind v h q on.0 g) on.1)
+          | inr g ↦ absurd (subst (In k) (none_after v h q on.0 g) on.1)
         ])
       ]
 

@@ -17,7 +17,7 @@ use Rattle.lsys_forest.proofs.StockLemmas.{stored_of}
 use Rattle.lsys_reads.specs.Levels.{answer_at, AnsweredAt}
 use Rattle.lsys_reads.specs.Seats.{HasSeat}
 use Rattle.lsys_forest.specs.Pairs.{seen_at}
-use Rattle.lsys_children.specs.Nexts.{Successors, AreClosed, HasWanted, node_kind, wanted_in, wanted_behind}
+use Rattle.lsys_children.specs.Nexts.{Successors, AreClosed, HasWanted, node_kind, wanted_in, wanted_after}
 use Rattle.lsys_children.specs.Renewals.{KeepsDeeper}
 use Rattle.lsys_children.specs.Answers.{kept_successors}
 use Rattle.lsys_children.proofs.Walks.{same_yes, same_not, none_reached}
@@ -43,14 +43,14 @@ use Rattle.lsys_pass.proofs.SeenCases.{seen_cases}
 -- 1. what a walk finds to be wanted, where no cut reaches what stands after
 
 module _ (m : Nodes Kept) (by : Successors) (j : ℕ) (js : List ℕ) (closed : is_open (by j) ≡ false) (k : ℕ) where
-  abbrev behind : ℕ → List (S.Symbol ℤ)
-  behind k = wanted_in m by (reached None (node_kind m j) (is_open (by j))) js k
+  abbrev after : ℕ → List (S.Symbol ℤ)
+  after k = wanted_in m by (reached None (node_kind m j) (is_open (by j))) js k
 
   at_first : k ≡ j → wanted_in m by None (j ∷ js) k ≡ by k
-  at_first e = ap (λ b. cond b (wanted_behind None (node_kind m j) (by j)) (behind k)) (ap (λ x. nat_eq x j) e ∙ same_yes j) ∙ ap by (sym e)
+  at_first e = ap (λ b. cond b (wanted_after None (node_kind m j) (by j)) (after k)) (ap (λ x. nat_eq x j) e ∙ same_yes j) ∙ ap by (sym e)
 
   at_later : (k ≡ j → ⊥) → wanted_in m by None js k ≡ by k → wanted_in m by None (j ∷ js) k ≡ by k
-  at_later ne h = ap (λ b. cond b (wanted_behind None (node_kind m j) (by j)) (behind k)) (same_not k j ne) ∙ ap (λ o. wanted_in m by o js k) (none_reached (node_kind m j) (is_open (by j)) closed) ∙ h
+  at_later ne h = ap (λ b. cond b (wanted_after None (node_kind m j) (by j)) (after k)) (same_not k j ne) ∙ ap (λ o. wanted_in m by o js k) (none_reached (node_kind m j) (is_open (by j)) closed) ∙ h
 
 pub wanted_alone : (m : Nodes Kept) (by : Successors) (ks : List ℕ) → AreClosed by ks → (k : ℕ) → In k ks → wanted_in m by None ks k ≡ by k
 wanted_alone m by [] closed k i = absurd i

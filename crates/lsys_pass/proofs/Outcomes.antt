@@ -68,9 +68,9 @@ kept_for (b ∷ bs) right o a rules e r = (a, e, r)
 
 -- 2. faults
 
-pub fault_behind : (k : ℕ) (fs : List Faulted) (f : Faulted) → k ≢ f.node → fault_in k (fs ++ f ∷ []) ≡ fault_in k fs
-fault_behind k [] f ne = grind (arith, common_steps)
-fault_behind k (x ∷ fs) f ne = ap (λ o. cond (nat_eq k x.node) (Some x.kind) o) (fault_behind k fs f ne)
+pub fault_after : (k : ℕ) (fs : List Faulted) (f : Faulted) → k ≢ f.node → fault_in k (fs ++ f ∷ []) ≡ fault_in k fs
+fault_after k [] f ne = grind (arith, common_steps)
+fault_after k (x ∷ fs) f ne = ap (λ o. cond (nat_eq k x.node) (Some x.kind) o) (fault_after k fs f ne)
 
 fault_step : (b : Bool) (x : FaultKind) (o o' : Option FaultKind) (kind : FaultKind) → (o ≡ None → o' ≡ Some kind) → cond b (Some x) o ≡ None → cond b (Some x) o' ≡ Some kind
 fault_step true x o o' kind f h = absurd (none-some x (sym h))
@@ -266,7 +266,7 @@ module _ (s : Stage) (t node : ℕ) (n : Node Kept) (front back : List ℕ) (x :
           stays = stay_fault;
           made = made;
           settled = λ reader seen. refl;
-          faults = λ k ne. fault_behind k s.faults (record { node = node; kind = kind }) ne;
+          faults = λ k ne. fault_after k s.faults (record { node = node; kind = kind }) ne;
           noted = noted_more s.faults (record { node = node; kind = kind }) (level_nodes s.now s.root t) (level_of s.now s.root t) x.at.answers.noted
               (record { place = p; line = names s.now node; own = r.here.own; there = r.there; stands = r.here.stands; is = noted_is });
           outcome = λ q h. subst (λ f. OutcomeBy f (AnsweredIn s.next t row st q n.answer) (HasFault s.next t (level_to s.next s.limit t) q)) (sym noted_is)

@@ -42,10 +42,10 @@ pub record Halved (part : List Slot) (s : Slot) : Type 0 where
   pub within : length part / 2 < length part
   pub count : s.gone + length (those_left (take (length part / 2) part)) ≡ length part / 2
   pub front : AreCounted (take (length part / 2) part)
-  pub behind : AreCounted (drop (length part / 2 + 1) part)
+  pub after : AreCounted (drop (length part / 2 + 1) part)
 
 pub halved : (part : List Slot) (s : Slot) (place : ℕ) → AreCounted part → place < length (those_left part) → s ≡ slice_index_or part (length part / 2) s → Halved part s
-halved part s place (InHalves count front behind) h is =
+halved part s place (InHalves count front after) h is =
     let some = some_slot part place h in
     let m = length part / 2 in
     let within : length part / 2 < length part = omega (arith, some) in
@@ -55,7 +55,7 @@ halved part s place (InHalves count front behind) h is =
       within = within;
       count = count s (slice_get_read part (length part) m s refl within is);
       front = front some;
-      behind = behind some;
+      after = after some;
     }
 
 -- what it has left
@@ -63,32 +63,32 @@ pub left_is : (part : List Slot) (s : Slot) → Halved part s → those_left par
 left_is part s h = ap those_left h.whole ∙ those_around (take (length part / 2) part) s (drop (length part / 2 + 1) part)
 
 -- what stands after the middle
-abbrev pub behind_in : List Slot → List Slot
-behind_in part = take (length part - (length part / 2 + 1)) (drop (length part / 2 + 1) part)
+abbrev pub after_in : List Slot → List Slot
+after_in part = take (length part - (length part / 2 + 1)) (drop (length part / 2 + 1) part)
 
-behind_is : (part : List Slot) → behind_in part ≡ drop (length part / 2 + 1) part
-behind_is part = take_all (length part - (length part / 2 + 1)) (drop (length part / 2 + 1) part) (let n = length-drop (length part / 2 + 1) part in omega (arith, n))
+after_is : (part : List Slot) → after_in part ≡ drop (length part / 2 + 1) part
+after_is part = take_all (length part - (length part / 2 + 1)) (drop (length part / 2 + 1) part) (let n = length-drop (length part / 2 + 1) part in omega (arith, n))
 
-pub left_where : (part : List Slot) (s : Slot) (o : Option ℕ) → Halved part s → s.node ≡ o → those_left part ≡ those_left (take (length part / 2) part) ++ cons_option o (those_left (behind_in part))
+pub left_where : (part : List Slot) (s : Slot) (o : Option ℕ) → Halved part s → s.node ≡ o → those_left part ≡ those_left (take (length part / 2) part) ++ cons_option o (those_left (after_in part))
 left_where part s o h is =
     left_is part s h
     ∙ ap (λ (o : Option ℕ). those_left (take (length part / 2) part) ++ cons_option o (those_left (drop (length part / 2 + 1) part))) is
-    ∙ ap (λ (ys : List Slot). those_left (take (length part / 2) part) ++ cons_option o (those_left ys)) (sym (behind_is part))
+    ∙ ap (λ (ys : List Slot). those_left (take (length part / 2) part) ++ cons_option o (those_left ys)) (sym (after_is part))
 
-pub behind_some : (part : List Slot) (s : Slot) (x place : ℕ) → Halved part s → s.node ≡ Some x → length part / 2 - s.gone ≤ place → place ≢ length part / 2 - s.gone → place < length (those_left part)
-    → AreCounted (behind_in part) × (place - (length part / 2 - s.gone) - 1 < length (those_left (behind_in part)))
-behind_some part s x place h is above other within =
+pub after_some : (part : List Slot) (s : Slot) (x place : ℕ) → Halved part s → s.node ≡ Some x → length part / 2 - s.gone ≤ place → place ≢ length part / 2 - s.gone → place < length (those_left part)
+    → AreCounted (after_in part) × (place - (length part / 2 - s.gone) - 1 < length (those_left (after_in part)))
+after_some part s x place h is above other within =
     let count = h.count in
-    let all = ap length (left_where part s (Some x) h is) ∙ length-append (those_left (take (length part / 2) part)) (x ∷ those_left (behind_in part)) in
+    let all = ap length (left_where part s (Some x) h is) ∙ length-append (those_left (take (length part / 2) part)) (x ∷ those_left (after_in part)) in
     let apart = over place (length part / 2 - s.gone) above other in
-    (subst AreCounted (sym (behind_is part)) h.behind, omega (arith, count, all, apart, within))
+    (subst AreCounted (sym (after_is part)) h.after, omega (arith, count, all, apart, within))
 
-pub behind_none : (part : List Slot) (s : Slot) (place : ℕ) → Halved part s → s.node ≡ None → length part / 2 - s.gone ≤ place → place < length (those_left part)
-    → AreCounted (behind_in part) × (place - (length part / 2 - s.gone) < length (those_left (behind_in part)))
-behind_none part s place h is above within =
+pub after_none : (part : List Slot) (s : Slot) (place : ℕ) → Halved part s → s.node ≡ None → length part / 2 - s.gone ≤ place → place < length (those_left part)
+    → AreCounted (after_in part) × (place - (length part / 2 - s.gone) < length (those_left (after_in part)))
+after_none part s place h is above within =
     let count = h.count in
-    let all = ap length (left_where part s None h is) ∙ length-append (those_left (take (length part / 2) part)) (those_left (behind_in part)) in
-    (subst AreCounted (sym (behind_is part)) h.behind, omega (arith, count, all, above, within))
+    let all = ap length (left_where part s None h is) ∙ length-append (those_left (take (length part / 2) part)) (those_left (after_in part)) in
+    (subst AreCounted (sym (after_is part)) h.after, omega (arith, count, all, above, within))
 
 -- 3. a node at a place
 
@@ -100,24 +100,24 @@ found_here part s h place k is e =
     let count = h.count in
     let before = those_left (take (length part / 2) part) in
     ap (λ (xs : List ℕ). slice_get xs place) (left_where part s (Some k) h is)
-    ∙ get_right before (k ∷ those_left (behind_in part)) place 0 k (omega (arith, count, e)) refl
+    ∙ get_right before (k ∷ those_left (after_in part)) place 0 k (omega (arith, count, e)) refl
 
-pub found_behind_some : (part : List Slot) (s : Slot) (x place k : ℕ) → Halved part s → s.node ≡ Some x → length part / 2 - s.gone ≤ place → place ≢ length part / 2 - s.gone
-    → slice_get (those_left (behind_in part)) (place - (length part / 2 - s.gone) - 1) ≡ Some k → slice_get (those_left part) place ≡ Some k
-found_behind_some part s x place k h is above other found =
+pub found_after_some : (part : List Slot) (s : Slot) (x place k : ℕ) → Halved part s → s.node ≡ Some x → length part / 2 - s.gone ≤ place → place ≢ length part / 2 - s.gone
+    → slice_get (those_left (after_in part)) (place - (length part / 2 - s.gone) - 1) ≡ Some k → slice_get (those_left part) place ≡ Some k
+found_after_some part s x place k h is above other found =
     let count = h.count in
     let before = those_left (take (length part / 2) part) in
     let apart = over place (length part / 2 - s.gone) above other in
     ap (λ (xs : List ℕ). slice_get xs place) (left_where part s (Some x) h is)
-    ∙ get_right before (x ∷ those_left (behind_in part)) place (suc (place - (length part / 2 - s.gone) - 1)) k (omega (arith, count, apart)) found
+    ∙ get_right before (x ∷ those_left (after_in part)) place (suc (place - (length part / 2 - s.gone) - 1)) k (omega (arith, count, apart)) found
 
-pub found_behind_none : (part : List Slot) (s : Slot) (place k : ℕ) → Halved part s → s.node ≡ None → length part / 2 - s.gone ≤ place
-    → slice_get (those_left (behind_in part)) (place - (length part / 2 - s.gone)) ≡ Some k → slice_get (those_left part) place ≡ Some k
-found_behind_none part s place k h is above found =
+pub found_after_none : (part : List Slot) (s : Slot) (place k : ℕ) → Halved part s → s.node ≡ None → length part / 2 - s.gone ≤ place
+    → slice_get (those_left (after_in part)) (place - (length part / 2 - s.gone)) ≡ Some k → slice_get (those_left part) place ≡ Some k
+found_after_none part s place k h is above found =
     let count = h.count in
     let before = those_left (take (length part / 2) part) in
     ap (λ (xs : List ℕ). slice_get xs place) (left_where part s None h is)
-    ∙ get_right before (those_left (behind_in part)) place (place - (length part / 2 - s.gone)) k (omega (arith, count, above)) found
+    ∙ get_right before (those_left (after_in part)) place (place - (length part / 2 - s.gone)) k (omega (arith, count, above)) found
 
 -- 4. one that is taken off
 
@@ -126,19 +126,19 @@ pub record IsTaken (old new : List Slot) (place : ℕ) : Type 0 where
   pub left : those_left new ≡ remove (those_left old) place
 
 -- slots before a middle one and after it
-joined : (n : ℕ) (before : List Slot) (s : Slot) (behind : List Slot) → n / 2 < n → length before ≡ n / 2 → length behind ≡ n - (n / 2 + 1) → s.gone + length (those_left before) ≡ n / 2
-    → AreCounted before → AreCounted behind → AreCounted (before ++ s ∷ behind)
-joined n before s behind within one two count front back =
-    let all = before ++ s ∷ behind in
-    let size = length-append before (s ∷ behind) in
+joined : (n : ℕ) (before : List Slot) (s : Slot) (after : List Slot) → n / 2 < n → length before ≡ n / 2 → length after ≡ n - (n / 2 + 1) → s.gone + length (those_left before) ≡ n / 2
+    → AreCounted before → AreCounted after → AreCounted (before ++ s ∷ after)
+joined n before s after within one two count front back =
+    let all = before ++ s ∷ after in
+    let size = length-append before (s ∷ after) in
     let whole : length all ≡ n = omega (arith, size, within, one, two) in
     let half : length all / 2 ≡ n / 2 = ap (λ (k : ℕ). k / 2) whole in
-    let first : take (length all / 2) all ≡ before = take_at before (s ∷ behind) (length all / 2) (one ∙ sym half) in
-    let rest : drop (length all / 2 + 1) all ≡ behind = ap (λ (k : ℕ). drop (k + 1) all) (half ∙ sym one) ∙ drop-append-add before (s ∷ behind) 1 in
+    let first : take (length all / 2) all ≡ before = take_at before (s ∷ after) (length all / 2) (one ∙ sym half) in
+    let rest : drop (length all / 2 + 1) all ≡ after = ap (λ (k : ℕ). drop (k + 1) all) (half ∙ sym one) ∙ drop-append-add before (s ∷ after) 1 in
     InHalves
     {part = all}
     (λ t at.
-    let same : t ≡ s = same_Some t s (sym at ∙ ap (slice_get all) (half ∙ sym one) ∙ get_right before (s ∷ behind) (length before) 0 s (omega arith) refl) in
+    let same : t ≡ s = same_Some t s (sym at ∙ ap (slice_get all) (half ∙ sym one) ∙ get_right before (s ∷ after) (length before) 0 s (omega arith) refl) in
     ap (λ (x : Slot). x.gone + length (those_left (take (length all / 2) all))) same ∙ ap (λ (xs : List Slot). s.gone + length (those_left xs)) first ∙ count ∙ sym half)
     (λ _. subst AreCounted (sym first) front)
     (λ _. subst AreCounted (sym rest) back)
@@ -184,7 +184,7 @@ taken_front part s t place fresh h t_is less size counted left =
     let sum : (s.gone + 1) + length (those_left fresh) ≡ m = omega (arith, count, fewer, less_one) in
     let whole : fresh ++ drop m (slice_set part m t) ≡ fresh ++ t ∷ drop (m + 1) part = ap (λ (ys : List Slot). fresh ++ ys) (drop-set part m t within) in
     record {
-      counted = subst AreCounted (sym whole) (joined (length part) fresh t (drop (m + 1) part) within one (length-drop (m + 1) part) (ap (λ (x : Slot). x.gone + length (those_left fresh)) t_is ∙ sum) counted h.behind);
+      counted = subst AreCounted (sym whole) (joined (length part) fresh t (drop (m + 1) part) within one (length-drop (m + 1) part) (ap (λ (x : Slot). x.gone + length (those_left fresh)) t_is ∙ sum) counted h.after);
       left = ap those_left whole ∙ those_around fresh t (drop (m + 1) part) ∙ ap (λ (x : Slot). those_left fresh ++ cons_option x.node rest) t_is
           ∙ ap (λ (xs : List ℕ). xs ++ cons_option s.node rest) left_now ∙ sym (remove-append_left before (cons_option s.node rest) place here)
           ∙ ap (λ (xs : List ℕ). remove xs place) (sym (left_is part s h));
@@ -202,16 +202,16 @@ taken_here part s t x place h is at t_is =
     let first : place - length before ≡ 0 = omega (arith, count, at) in
     let off : remove (before ++ x ∷ rest) place ≡ before ++ rest = remove-append_right before (x ∷ rest) (length before) place refl (omega (arith, count, at)) ∙ ap (λ (i : ℕ). before ++ remove (x ∷ rest) i) first in
     record {
-      counted = subst AreCounted (sym whole) (joined (length part) (take m part) t (drop (m + 1) part) within (length-take-le m part (omega (arith, within))) (length-drop (m + 1) part) (ap (λ (y : Slot). y.gone + length before) t_is ∙ count) h.front h.behind);
+      counted = subst AreCounted (sym whole) (joined (length part) (take m part) t (drop (m + 1) part) within (length-take-le m part (omega (arith, within))) (length-drop (m + 1) part) (ap (λ (y : Slot). y.gone + length before) t_is ∙ count) h.front h.after);
       left = ap those_left whole ∙ those_around (take m part) t (drop (m + 1) part) ∙ ap (λ (y : Slot). before ++ cons_option y.node rest) t_is
           ∙ sym off ∙ ap (λ (o : Option ℕ). remove (before ++ cons_option o rest) place) (sym is) ∙ ap (λ (xs : List ℕ). remove xs place) (sym (left_is part s h));
     }
 
 -- after the middle
-abbrev pub with_behind : List Slot → List Slot → List Slot
-with_behind part fresh = put_mid (length part / 2 + 1) (length part - (length part / 2 + 1)) part fresh
+abbrev pub with_after : List Slot → List Slot → List Slot
+with_after part fresh = put_mid (length part / 2 + 1) (length part - (length part / 2 + 1)) part fresh
 
-with_is : (part : List Slot) (s : Slot) (fresh : List Slot) → Halved part s → s ≡ slice_index_or part (length part / 2) s → with_behind part fresh ≡ take (length part / 2) part ++ s ∷ fresh
+with_is : (part : List Slot) (s : Slot) (fresh : List Slot) → Halved part s → s ≡ slice_index_or part (length part / 2) s → with_after part fresh ≡ take (length part / 2) part ++ s ∷ fresh
 with_is part s fresh h is =
     let m = length part / 2 in
     let gone = drop_all (length part - (m + 1)) (drop (m + 1) part) (let n = length-drop (m + 1) part in omega (arith, n)) in
@@ -220,40 +220,40 @@ with_is part s fresh h is =
     ∙ ap (λ (xs : List Slot). xs ++ fresh) (take_more part m s h.within ∙ ap (λ (y : Slot). take m part ++ y ∷ []) (sym is))
     ∙ append_assoc (take m part) (s ∷ []) fresh
 
-taken_behind : (part : List Slot) (s : Slot) (place : ℕ) (fresh : List Slot) → Halved part s → s ≡ slice_index_or part (length part / 2) s → length fresh ≡ length (behind_in part) → AreCounted fresh
-    → those_left (take (length part / 2) part) ++ cons_option s.node (those_left fresh) ≡ remove (those_left part) place → IsTaken part (with_behind part fresh) place
-taken_behind part s place fresh h is size counted left =
+taken_after : (part : List Slot) (s : Slot) (place : ℕ) (fresh : List Slot) → Halved part s → s ≡ slice_index_or part (length part / 2) s → length fresh ≡ length (after_in part) → AreCounted fresh
+    → those_left (take (length part / 2) part) ++ cons_option s.node (those_left fresh) ≡ remove (those_left part) place → IsTaken part (with_after part fresh) place
+taken_after part s place fresh h is size counted left =
     let m = length part / 2 in
     let within = h.within in
     let whole = with_is part s fresh h is in
     record {
-      counted = subst AreCounted (sym whole) (joined (length part) (take m part) s fresh within (length-take-le m part (omega (arith, within))) (size ∙ ap length (behind_is part) ∙ length-drop (m + 1) part) h.count h.front counted);
+      counted = subst AreCounted (sym whole) (joined (length part) (take m part) s fresh within (length-take-le m part (omega (arith, within))) (size ∙ ap length (after_is part) ∙ length-drop (m + 1) part) h.count h.front counted);
       left = ap those_left whole ∙ those_around (take m part) s fresh ∙ left;
     }
 
-pub taken_behind_some : (part : List Slot) (s : Slot) (x place : ℕ) (fresh : List Slot) → Halved part s → s ≡ slice_index_or part (length part / 2) s → s.node ≡ Some x
-    → length part / 2 - s.gone ≤ place → place ≢ length part / 2 - s.gone → length fresh ≡ length (behind_in part) → AreCounted fresh
-    → those_left fresh ≡ remove (those_left (behind_in part)) (place - (length part / 2 - s.gone) - 1) → IsTaken part (with_behind part fresh) place
-taken_behind_some part s x place fresh h is node above other size counted left =
+pub taken_after_some : (part : List Slot) (s : Slot) (x place : ℕ) (fresh : List Slot) → Halved part s → s ≡ slice_index_or part (length part / 2) s → s.node ≡ Some x
+    → length part / 2 - s.gone ≤ place → place ≢ length part / 2 - s.gone → length fresh ≡ length (after_in part) → AreCounted fresh
+    → those_left fresh ≡ remove (those_left (after_in part)) (place - (length part / 2 - s.gone) - 1) → IsTaken part (with_after part fresh) place
+taken_after_some part s x place fresh h is node above other size counted left =
     let count = h.count in
     let apart = over place (length part / 2 - s.gone) above other in
     let before = those_left (take (length part / 2) part) in
-    let rest = those_left (behind_in part) in
+    let rest = those_left (after_in part) in
     let next : place - length before ≡ suc (place - (length part / 2 - s.gone) - 1) = omega (arith, count, apart) in
-    taken_behind part s place fresh h is size counted
+    taken_after part s place fresh h is size counted
     (ap (λ (o : Option ℕ). before ++ cons_option o (those_left fresh)) node ∙ ap (λ (xs : List ℕ). before ++ x ∷ xs) left
     ∙ ap (λ (i : ℕ). before ++ remove (x ∷ rest) i) (sym next) ∙ sym (remove-append_right before (x ∷ rest) (length before) place refl (omega (arith, count, apart)))
     ∙ ap (λ (xs : List ℕ). remove xs place) (sym (left_where part s (Some x) h node)))
 
-pub taken_behind_none : (part : List Slot) (s : Slot) (place : ℕ) (fresh : List Slot) → Halved part s → s ≡ slice_index_or part (length part / 2) s → s.node ≡ None
-    → length part / 2 - s.gone ≤ place → length fresh ≡ length (behind_in part) → AreCounted fresh
-    → those_left fresh ≡ remove (those_left (behind_in part)) (place - (length part / 2 - s.gone)) → IsTaken part (with_behind part fresh) place
-taken_behind_none part s place fresh h is node above size counted left =
+pub taken_after_none : (part : List Slot) (s : Slot) (place : ℕ) (fresh : List Slot) → Halved part s → s ≡ slice_index_or part (length part / 2) s → s.node ≡ None
+    → length part / 2 - s.gone ≤ place → length fresh ≡ length (after_in part) → AreCounted fresh
+    → those_left fresh ≡ remove (those_left (after_in part)) (place - (length part / 2 - s.gone)) → IsTaken part (with_after part fresh) place
+taken_after_none part s place fresh h is node above size counted left =
     let count = h.count in
     let before = those_left (take (length part / 2) part) in
-    let rest = those_left (behind_in part) in
+    let rest = those_left (after_in part) in
     let next : place - length before ≡ place - (length part / 2 - s.gone) = omega (arith, count, above) in
-    taken_behind part s place fresh h is size counted
+    taken_after part s place fresh h is size counted
     (ap (λ (o : Option ℕ). before ++ cons_option o (those_left fresh)) node ∙ ap (λ (xs : List ℕ). before ++ xs) left
     ∙ ap (λ (i : ℕ). before ++ remove rest i) (sym next) ∙ sym (remove-append_right before rest (length before) place refl (omega (arith, count, above)))
     ∙ ap (λ (xs : List ℕ). remove xs place) (sym (left_where part s None h node)))

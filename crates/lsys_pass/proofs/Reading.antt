@@ -15,11 +15,11 @@ use Rattle.lsys_walks.specs.Stores.{Store}
 use Rattle.lsys_match.specs.Kept.{Kept}
 use Rattle.lsys_match.specs.Stored.{listed, entries_in, values_in}
 use Rattle.lsys_reads.specs.Levels.{tags_named, tags_read}
-use Rattle.lsys_pass.specs.Read.{entry_tags, entries_tags, pairs_of, ComesBehind, AddsPairs, NotesPairs}
+use Rattle.lsys_pass.specs.Read.{entry_tags, entries_tags, pairs_of, ComesAfter, AddsPairs, NotesPairs}
 
 -- 1. entries, one by one
 
-pub comes_further : (old mid new more : List Pair) → mid ≡ old ++ more → ComesBehind mid new → ComesBehind old new
+pub comes_further : (old mid new more : List Pair) → mid ≡ old ++ more → ComesAfter mid new → ComesAfter old new
 comes_further old mid new more is h = record { more = more ++ h.more; is = h.is ∙ ap (λ l. l ++ h.more) is ∙ append_assoc old more h.more }
 
 -- 2. the tags of a trace

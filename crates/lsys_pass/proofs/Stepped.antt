@@ -41,7 +41,7 @@ use Rattle.lsys_front.specs.Fronts.{IsLevelFront}
 use Rattle.lsys_forest.specs.Rows.{level_nodes, level_spots}
 use Rattle.lsys_pass.proofs.Asking.{IsSameForest, IsAsked, asked, at, made_now, same_sound, same_nodes, same_spots, sound_now}
 use Rattle.lsys_pass.proofs.Waiting.{stays_refused, none_refused, level_waits}
-use Rattle.lsys_pass.proofs.Outcomes.{IsReplied, fault_behind, level_same, level_fault, level_new}
+use Rattle.lsys_pass.proofs.Outcomes.{IsReplied, fault_after, level_same, level_fault, level_new}
 
 -- 1. the parts of a stage, one by one
 
@@ -218,7 +218,7 @@ module _ (v : PassView) (t : ℕ) (h : IsPass v) (state : v.state ≡ Level t) (
         (level_same s t node a.n a.front a.back a.next (made_now v t h state) p st r (changes_in g'))
     over_all (Err (refusals.Fault kind)) r less k =
         still (v.faults ++ record { node = node; kind = kind } ∷ []) less k.0 (k.1 ∙ ap (λ (fs : List Faulted). fs ++ record { node = node; kind = kind } ∷ []) work.faults) (λ b m. stays_kept v.store st b r.store m)
-        (none_kept v.store st r.store) (λ j ne. fault_behind j v.faults (record { node = node; kind = kind }) ne)
+        (none_kept v.store st r.store) (λ j ne. fault_after j v.faults (record { node = node; kind = kind }) ne)
         (level_fault s t node a.n a.front a.back a.next (made_now v t h state) p st kind r (changes_in g'))
     over_all (Err refusals.Memory) r less k = absurd k
     over_all (Ok (New b)) r less k =

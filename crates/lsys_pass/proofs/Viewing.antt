@@ -44,14 +44,14 @@ stands_among (x ∷ levels) t p a e = by (λ u g. stands_among levels u p a g) (
     Goal : ℕ → Type 0
     Goal u = tag_place a.tag (spots_at (x ∷ levels) u) < length (spots_at (x ∷ levels) u)
 
-    Behind : Type 0
-    Behind = IsSpot levels (level_in a.tag levels) (place_among a.tag levels)
+    After : Type 0
+    After = IsSpot levels (level_in a.tag levels) (place_among a.tag levels)
 
-    later : ((u : ℕ) → spotted_at levels u p ≡ Some a → Behind) → (u : ℕ) → nat_lt (tag_place a.tag x) (length x) ≡ false → spotted_at (x ∷ levels) u p ≡ Some a → Behind
+    later : ((u : ℕ) → spotted_at levels u p ≡ Some a → After) → (u : ℕ) → nat_lt (tag_place a.tag x) (length x) ≡ false → spotted_at (x ∷ levels) u p ≡ Some a → After
     later rec zero f g = absurd (let l = stands_in x p a g in grind (arith, nat_tests, f, l))
     later rec (suc u) f g = rec u g
 
-    by : ((u : ℕ) → spotted_at levels u p ≡ Some a → Behind) → (b : Bool) → nat_lt (tag_place a.tag x) (length x) ≡ b → Goal (at (nat_lt (tag_place a.tag x) (length x)))
+    by : ((u : ℕ) → spotted_at levels u p ≡ Some a → After) → (b : Bool) → nat_lt (tag_place a.tag x) (length x) ≡ b → Goal (at (nat_lt (tag_place a.tag x) (length x)))
     by rec true f = subst (λ b. Goal (at b)) (sym f) (grind (arith, nat_tests, f))
     by rec false f = subst (λ b. Goal (at b)) (sym f) (later rec t f e)
 

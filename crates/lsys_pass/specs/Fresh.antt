@@ -178,7 +178,7 @@ pub record IsLast (v : PassView) (t : ℕ) : Type 0 where
 
 -- 3. where a pass came from that made level t: the level before it, of which all was asked; or the last rest, for the first one
 pub data Origin (v : PassView) (t : ℕ) : Type 0 where
-  behind : (w : PassView) (u : ℕ) → t ≡ suc u → WasAsked w u → Goes (stage_of w) (stage_of v) t
+  after : (w : PassView) (u : ℕ) → t ≡ suc u → WasAsked w u → Goes (stage_of w) (stage_of v) t
       → Origin v t
   at_first : (w : PassView) → t ≡ 0 → IsStill (stage_of w) → Rests (stage_of w)
       → Goes (record (stage_of w) { next = v.next }) (stage_of v) t → Origin v t

@@ -24,7 +24,7 @@ abbrev pub pairs_of : ℕ → List ℕ → List Pair
 pairs_of reader tags = map (pair_of reader) tags
 
 -- those that were there are there, and maybe others after them
-pub record ComesBehind (old new : List Pair) : Type 0 where
+pub record ComesAfter (old new : List Pair) : Type 0 where
   pub more : List Pair
   pub is : new ≡ old ++ more
 

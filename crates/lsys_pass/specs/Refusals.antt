@@ -30,11 +30,11 @@ pub record RefusesNext {T : Type 0} (s : System) (limit t : ℕ) (r : Result T D
       → (r ≡ Err (Limit u)) ↔ (meaning_to s limit (t + 1) ≡ Err (OverLimit u))
 
 -- so it is at the level at which a pass stands
-abbrev pub RefusesBehind : {T : Type 0} → PassView → PassState → Result T DeriveRefusal → Type 0
-RefusesBehind v (Level t) r = RefusesNext v.next v.limit t r
-RefusesBehind v Rest r = Unit {0}
-RefusesBehind v Done r = Unit {0}
-RefusesBehind v Failed r = Unit {0}
+abbrev pub RefusesAfter : {T : Type 0} → PassView → PassState → Result T DeriveRefusal → Type 0
+RefusesAfter v (Level t) r = RefusesNext v.next v.limit t r
+RefusesAfter v Rest r = Unit {0}
+RefusesAfter v Done r = Unit {0}
+RefusesAfter v Failed r = Unit {0}
 
 -- 2. one refusal
 

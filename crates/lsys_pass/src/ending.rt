@@ -67,7 +67,7 @@ fn end_forest<A: Kept>(
     alloc: Global,
     forest: &mut Forest<A>,
     level: u32,
-    levels_behind: u32,
+    levels_after: u32,
     gone: &[NodeId],
     dropped: &mut Vec<Tag>,
 ) -> Result<(), AllocError>
@@ -76,7 +76,7 @@ fn end_forest<A: Kept>(
     requires level { level < length (complete_levels forest.old) }
     requires lives { (k : ℕ) → In k gone.now → IsLive forest.old k }
     ensures ended { OnOk result (AreEndedOn forest.old forest.new level) }
-    ensures dropped { OnOk result (DropsOn forest level gone.now levels_behind dropped) }
+    ensures dropped { OnOk result (DropsOn forest level gone.now levels_after dropped) }
     ensures loses { LosesOnly forest.old forest.new }
 {
     let mut nodes = Vec::new(alloc);
@@ -84,7 +84,7 @@ fn end_forest<A: Kept>(
     let mut below = Vec::new(alloc);
     end_level(forest, &nodes, &mut below, dropped)?;
     add_children(forest, gone, &mut below)?;
-    drop_below(alloc, forest, below, levels_behind, dropped)
+    drop_below(alloc, forest, below, levels_after, dropped)
 }
 
 /// The nodes that are gone from a level.

@@ -5,7 +5,7 @@ ghost use Rattle.lsys_pass.specs.declared.state.PassState.TheVariants.{Failed};
 ghost use Rattle.lsys_pass.specs.Moves.{AtLevel, SameRun, ArrivesAt, Finishes, Fails};
 ghost use Rattle.lsys_pass.specs.Fresh.{WasAsked, WasJustMade, SizesTo, Origin};
 ghost use Rattle.lsys_pass.specs.Spent.{AllPending};
-ghost use Rattle.lsys_pass.specs.Refusals.{RefusesBehind, IsLimitRefusal};
+ghost use Rattle.lsys_pass.specs.Refusals.{RefusesAfter, IsLimitRefusal};
 
 use crate::keep::target;
 use crate::pass::Pass;
@@ -31,7 +31,7 @@ impl<L: Ledger> Pass<L> {
         ensures all { OnOk result (AllPending self.new self.new.state) }
         ensures fails { OnErr result (Fails self.old self.new) }
         ensures refusal { IfErr result (IsLevelRefusal self.old.next self.old.limit) }
-        ensures exact { RefusesBehind self.old self.old.state result }
+        ensures exact { RefusesAfter self.old self.old.state result }
     {
         let level = match self.state {
             PassState::Level(level) => level,

@@ -2,7 +2,7 @@
 ghost use Rattle.std.specs.Prelude.{◌≡◌, ℕ, [], false, OnOk, OnErr};
 ghost use Rattle.lsys_reads.specs.Relations.{SettledStay};
 ghost use Rattle.lsys_reads.specs.Rows.{has};
-ghost use Rattle.lsys_pass.specs.Read.{entry_tags, entries_tags, ComesBehind, AddsPairs, NotesRead, SettlesReads, SettlesReaders};
+ghost use Rattle.lsys_pass.specs.Read.{entry_tags, entries_tags, ComesAfter, AddsPairs, NotesRead, SettlesReads, SettlesReaders};
 
 use crate::work::Work;
 use lsys_level::Tag;
@@ -118,7 +118,7 @@ fn settle_listed(reads: &mut Reads, renewed: &[Tag], dropped: &[Tag])
 /// Adds them one by one; for lack of memory only some.
 fn add_entries(reads: &mut Reads, reader: Tag, entries: &[Entry]) -> Result<(), AllocError>
     ensures settled { SettledStay reads.old reads.new }
-    ensures behind { ComesBehind reads.old.pending reads.new.pending }
+    ensures after { ComesAfter reads.old.pending reads.new.pending }
     ensures ok { OnOk result (AddsPairs reads.old reads.new reader (entries_tags entries.now)) }
 {
     for entry in entries {
@@ -130,7 +130,7 @@ fn add_entries(reads: &mut Reads, reader: Tag, entries: &[Entry]) -> Result<(), 
 /// Adds what one entry names.
 fn add_entry(reads: &mut Reads, reader: Tag, entry: &Entry) -> Result<(), AllocError>
     ensures settled { SettledStay reads.old reads.new }
-    ensures behind { ComesBehind reads.old.pending reads.new.pending }
+    ensures after { ComesAfter reads.old.pending reads.new.pending }
     ensures ok { OnOk result (AddsPairs reads.old reads.new reader (entry_tags entry.now)) }
 {
     match *entry {

@@ -82,7 +82,7 @@ impl<L: Ledger> Pass<L> {
     ///
     /// The limit.
     pub(crate) fn within_limit(&self, level: u32, symbols: usize) -> Result<(), DeriveRefusal>
-        requires behind { 0 < level }
+        requires after { 0 < level }
         requires asked { WasAsked self.now (level - 1) }
         requires symbols { symbols ≡ symbols_wanted (stage_of self.now) (level - 1) }
         ensures within { OnOk result (total_of self.now.made + symbols ≤ self.now.limit) }

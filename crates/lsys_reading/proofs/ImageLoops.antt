@@ -128,17 +128,17 @@ images-push : (ks : List Kind) (xs : List ImageSymbol) (x : ImageSymbol) → Ima
 images-push ks [] x h i = (i, tt)
 images-push ks (y ∷ xs) x h i = (h.0, images-push ks xs x h.1 i)
 
-open-behind : (ks : List Kind) (x : ImageSymbol) (r : List (Symbol Expr)) → image_branches x (open_in r) ≡ open_in (image_at ks x ∷ r)
-open-behind ks (images.Module y) r = refl
-open-behind ks images.Push r = refl
-open-behind ks images.Pop r = refl
-open-behind ks images.Cut r = refl
+open-after : (ks : List Kind) (x : ImageSymbol) (r : List (Symbol Expr)) → image_branches x (open_in r) ≡ open_in (image_at ks x ∷ r)
+open-after ks (images.Module y) r = refl
+open-after ks images.Push r = refl
+open-after ks images.Pop r = refl
+open-after ks images.Cut r = refl
 
-few-behind : (x : ImageSymbol) (b end next : ℕ) → b ≤ end → end < next → image_branches x b ≤ next
-few-behind (images.Module y) b end next h i = omega (arith, h, i)
-few-behind images.Push b end next h i = omega (arith, h, i)
-few-behind images.Pop b end next h i = omega (arith, h, i)
-few-behind images.Cut b end next h i = omega (arith, h, i)
+few-after : (x : ImageSymbol) (b end next : ℕ) → b ≤ end → end < next → image_branches x b ≤ next
+few-after (images.Module y) b end next h i = omega (arith, h, i)
+few-after images.Push b end next h i = omega (arith, h, i)
+few-after images.Pop b end next h i = omega (arith, h, i)
+few-after images.Cut b end next h i = omega (arith, h, i)
 
 module _ (f : Form) (ks : List Kind) (at end : ℕ) (xs : List ImageSymbol) (branches : ℕ) (so : ImagesSoFar f ks at end xs branches) where
   pub images-more : (x : ImageRead) → IsImageRead f branches ks end (Ok x) → ImageIsAt ks x.symbol → end < x.end → x.end ≤ length ks → ImagesSoFar f ks at x.end (xs ++ x.symbol ∷ []) (image_branches x.symbol branches)
@@ -146,8 +146,8 @@ module _ (f : Form) (ks : List Kind) (at end : ℕ) (xs : List ImageSymbol) (bra
       let last : images_so_far ks (xs ++ x.symbol ∷ []) ≡ image_at ks x.symbol ∷ images_so_far ks xs = mapped-push (image_at ks) xs x.symbol in
       record {
         within = w;
-        few = few-behind x.symbol branches end x.end so.few l;
-        counted = ap (image_branches x.symbol) so.counted ∙ open-behind ks x.symbol (images_so_far ks xs) ∙ ap open_in (sym last);
+        few = few-after x.symbol branches end x.end so.few l;
+        counted = ap (image_branches x.symbol) so.counted ∙ open-after ks x.symbol (images_so_far ks xs) ∙ ap open_in (sym last);
         spans = images-push ks xs x.symbol so.spans s;
         read = λ b.
             subst (λ r. Leads (form_in f) ks at (at_state (Successor b [])) x.end (after_image b r)) (sym last)

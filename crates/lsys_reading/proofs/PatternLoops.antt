@@ -20,7 +20,7 @@ use Rattle.lsys_reading.specs.declared.patterns.SymbolRead.{SymbolRead}
 use Rattle.lsys_syntax.specs.RulePoints.{at_state, after_symbol, after_symbols, Leads}
 use Rattle.lsys_reading.specs.Glyphs.{IsPeeked, is_opening}
 use Rattle.lsys_reading.specs.Reads.{AreFormalsRead}
-use Rattle.lsys_reading.specs.Patterns.{module_read, symbol_read, so_far, branches_behind, opening_of, IsSection, is_empty, IsStanding, IsModuleRead, IsSymbolRead, ArePatternsRead}
+use Rattle.lsys_reading.specs.Patterns.{module_read, symbol_read, so_far, branches_after, opening_of, IsSection, is_empty, IsStanding, IsModuleRead, IsSymbolRead, ArePatternsRead}
 use Rattle.lsys_syntax.proofs.RulePoints.{leads-on, leads-stay}
 use Rattle.lsys_reading.proofs.ReadLaws.{refuses-on}
 use Rattle.lsys_reading.proofs.Reversals.{mapped-push}
@@ -69,39 +69,39 @@ pub record PatternsSoFar (s : Section) (ks : List Kind) (at end : ℕ) (xs : Lis
   pub counted : branches ≡ open_in (so_far xs)
   pub read : (m : Form) (p : Part) → IsSection s m p → Leads m ks at (at_state (Formals p [])) end (after_symbol p (so_far xs))
 
-full-behind : (xs : List PatternSymbol) (y : Symbol NameText) (r : List (Symbol NameText)) → is_empty (reversed_onto (map symbol_read xs) (y ∷ r)) ≡ false
-full-behind [] y r = refl
-full-behind (x ∷ xs) y r = full-behind xs (symbol_read x) (y ∷ r)
+full-after : (xs : List PatternSymbol) (y : Symbol NameText) (r : List (Symbol NameText)) → is_empty (reversed_onto (map symbol_read xs) (y ∷ r)) ≡ false
+full-after [] y r = refl
+full-after (x ∷ xs) y r = full-after xs (symbol_read x) (y ∷ r)
 
 pub first-is : (xs : List PatternSymbol) → is_empty xs ≡ is_empty (so_far xs)
 first-is [] = refl
-first-is (x ∷ xs) = sym (full-behind xs (symbol_read x) [])
+first-is (x ∷ xs) = sym (full-after xs (symbol_read x) [])
 
-open-behind : (x : Symbol NameText) (r : List (Symbol NameText)) → branches_behind x (open_in r) ≡ open_in (x ∷ r)
-open-behind (Module n fs) r = refl
-open-behind Push r = refl
-open-behind Pop r = refl
-open-behind Cut r = refl
+open-after : (x : Symbol NameText) (r : List (Symbol NameText)) → branches_after x (open_in r) ≡ open_in (x ∷ r)
+open-after (Module n fs) r = refl
+open-after Push r = refl
+open-after Pop r = refl
+open-after Cut r = refl
 
-few-behind : (x : Symbol NameText) (b end next : ℕ) → b ≤ end → end < next → branches_behind x b ≤ next
-few-behind (Module n fs) b end next h i = omega (arith, h, i)
-few-behind Push b end next h i = omega (arith, h, i)
-few-behind Pop b end next h i = omega (arith, h, i)
-few-behind Cut b end next h i = omega (arith, h, i)
+few-after : (x : Symbol NameText) (b end next : ℕ) → b ≤ end → end < next → branches_after x b ≤ next
+few-after (Module n fs) b end next h i = omega (arith, h, i)
+few-after Push b end next h i = omega (arith, h, i)
+few-after Pop b end next h i = omega (arith, h, i)
+few-after Cut b end next h i = omega (arith, h, i)
 
 module _ (s : Section) (ks : List Kind) (at end : ℕ) (xs : List PatternSymbol) (branches : ℕ) (first : Bool) (so : PatternsSoFar s ks at end xs branches) (is : first ≡ is_empty xs) where
   stands : (m : Form) (p : Part) → IsSection s m p → IsStanding (record { section = s; is_first = first; branches = branches }) m p (so_far xs)
   stands m p i = (i, is ∙ first-is xs, so.counted)
 
   pub patterns-more : (x : SymbolRead) → IsSymbolRead (record { section = s; is_first = first; branches = branches }) ks end (Ok (Some x)) → end < x.end → x.end ≤ length ks
-      → PatternsSoFar s ks at x.end (xs ++ x.symbol ∷ []) (branches_behind (symbol_read x.symbol) branches)
+      → PatternsSoFar s ks at x.end (xs ++ x.symbol ∷ []) (branches_after (symbol_read x.symbol) branches)
   patterns-more x i f w =
       let last : so_far (xs ++ x.symbol ∷ []) ≡ symbol_read x.symbol ∷ so_far xs = mapped-push symbol_read xs x.symbol in
       record {
         after = omega (arith, so.after, f);
         within = w;
-        few = few-behind (symbol_read x.symbol) branches end x.end so.few f;
-        counted = ap (branches_behind (symbol_read x.symbol)) so.counted ∙ open-behind (symbol_read x.symbol) (so_far xs) ∙ ap open_in (sym last);
+        few = few-after (symbol_read x.symbol) branches end x.end so.few f;
+        counted = ap (branches_after (symbol_read x.symbol)) so.counted ∙ open-after (symbol_read x.symbol) (so_far xs) ∙ ap open_in (sym last);
         read = λ m p j.
             subst (λ r. Leads m ks at (at_state (Formals p [])) x.end (after_symbol p r)) (sym last)
             (leads-on m ks at end x.end (at_state (Formals p [])) (after_symbol p (so_far xs)) (after_symbol p (symbol_read x.symbol ∷ so_far xs)) (so.read m p j) (i m p (so_far xs) (stands m p j)));

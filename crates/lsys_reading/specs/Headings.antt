@@ -20,11 +20,11 @@ IsColon ks at (Ok end) = Here ks at Colon × (end ≡ at + 1)
 IsColon ks at (Err (Token place)) = (place ≡ at) × (at_front colon_in (drop at ks) ≡ None)
 IsColon ks at (Err e) = ⊥
 
-abbrev pub production_behind : Heading → State
-production_behind h = InProduction h.table h.label start
+abbrev pub production_after : Heading → State
+production_after h = InProduction h.table h.label start
 
-abbrev pub homomorphism_behind : Heading → State
-homomorphism_behind h = InHomomorphism h.label start
+abbrev pub homomorphism_after : Heading → State
+homomorphism_after h = InHomomorphism h.label start
 
 -- a table and a colon, after the word of either kind of list
 abbrev pub IsTableHeading : List Kind → Result (List ℕ) PartRefusal → Type 0

@@ -34,11 +34,11 @@ symbol_read patterns.Pop = S.Pop
 abbrev pub so_far : List PatternSymbol → List (S.Symbol NameText)
 so_far xs = reversed (map symbol_read xs)
 
-abbrev pub branches_behind : S.Symbol NameText → ℕ → ℕ
-branches_behind (S.Module n fs) b = b
-branches_behind S.Push b = b + 1
-branches_behind S.Pop b = b - 1
-branches_behind S.Cut b = b
+abbrev pub branches_after : S.Symbol NameText → ℕ → ℕ
+branches_after (S.Module n fs) b = b
+branches_after S.Push b = b + 1
+branches_after S.Pop b = b - 1
+branches_after S.Cut b = b
 
 -- 1. which symbols may stand at a place
 
@@ -87,13 +87,13 @@ abbrev pub end_of : ℕ → Option SymbolRead → ℕ
 end_of at None = at
 end_of at (Some x) = x.end
 
-abbrev pub point_behind : Part → List (S.Symbol NameText) → Option SymbolRead → Point
-point_behind p r None = after_symbols p r
-point_behind p r (Some x) = after_symbol p (symbol_read x.symbol ∷ r)
+abbrev pub point_after : Part → List (S.Symbol NameText) → Option SymbolRead → Point
+point_after p r None = after_symbols p r
+point_after p r (Some x) = after_symbol p (symbol_read x.symbol ∷ r)
 
 abbrev pub IsSymbolRead : Standing → List Kind → ℕ → Result (Option SymbolRead) PartRefusal → Type 0
 IsSymbolRead st ks at result = (m : Form) (p : Part) (r : List (S.Symbol NameText)) → IsStanding st m p r
-    → IsRead m ks at (after_symbol p r) (end_of at) (point_behind p r) result
+    → IsRead m ks at (after_symbol p r) (end_of at) (point_after p r) result
 
 abbrev pub ArePatternsRead : Section → List Kind → ℕ → Result PatternsRead PartRefusal → Type 0
 ArePatternsRead s ks at result = (m : Form) (p : Part) → IsSection s m p

@@ -24,7 +24,7 @@ pub(crate) fn parts(alloc: Global, line: &LineTokens) -> Result<CommandParts, Pa
     ensures parts { IfOk result (AreParts (kinds_in line.now)) }
 {
     let word = command(line)?;
-    parts_behind(alloc, line, word)
+    parts_after(alloc, line, word)
 }
 
 // The word that a line begins with.
@@ -39,7 +39,7 @@ fn command(line: &LineTokens) -> Result<CommandWord, PartRefusal>
 }
 
 // What stands after this word.
-fn parts_behind(
+fn parts_after(
     alloc: Global,
     line: &LineTokens,
     word: CommandWord,

@@ -2,7 +2,7 @@
 ghost use Rattle.std.specs.Prelude.{◌≡◌, ◌≤◌, IfOk};
 ghost use Rattle.lsys_syntax.specs.LineMachine.{ProductionDue, LabelDue};
 ghost use Rattle.lsys_reading.specs.Tokens.{kinds_in, size};
-ghost use Rattle.lsys_reading.specs.Headings.{IsColon, IsTableHeading, production_behind, homomorphism_behind};
+ghost use Rattle.lsys_reading.specs.Headings.{IsColon, IsTableHeading, production_after, homomorphism_after};
 ghost use Rattle.lsys_reading.specs.Lines.{IsPart};
 
 use crate::glyph::peek;
@@ -32,7 +32,7 @@ fn colon(line: &LineTokens, at: usize) -> Result<usize, PartRefusal>
 
 // What stands between the word `production` and the rule.
 pub(crate) fn production_heading(line: &LineTokens) -> Result<Heading, PartRefusal>
-    ensures heading { IsPart (kinds_in line.now) 1 ProductionDue (λ h. h.end) production_behind result }
+    ensures heading { IsPart (kinds_in line.now) 1 ProductionDue (λ h. h.end) production_after result }
     ensures place { IfOk result (λ h. h.end ≤ size line.now) }
 {
     let first = word(line, 1)?;
@@ -54,7 +54,7 @@ pub(crate) fn production_heading(line: &LineTokens) -> Result<Heading, PartRefus
 
 // What stands between the word `hom` and the rule.
 pub(crate) fn homomorphism_heading(line: &LineTokens) -> Result<Heading, PartRefusal>
-    ensures heading { IsPart (kinds_in line.now) 1 LabelDue (λ h. h.end) homomorphism_behind result }
+    ensures heading { IsPart (kinds_in line.now) 1 LabelDue (λ h. h.end) homomorphism_after result }
     ensures place { IfOk result (λ h. h.end ≤ size line.now) }
 {
     let label = word(line, 1)?;

@@ -1,7 +1,7 @@
 //! Symbols with formals: the contexts of a rule, and its predecessor.
 ghost use Rattle.std.specs.Prelude.{◌≡◌, ◌≤◌, ◌<◌, IfOk, IfSome};
 ghost use Rattle.lsys_reading.specs.Tokens.{kinds_in, size};
-ghost use Rattle.lsys_reading.specs.Patterns.{symbol_read, takes_name, opening_of, branches_behind, IsModuleRead, IsSymbolRead, ArePatternsRead, CountsBranches};
+ghost use Rattle.lsys_reading.specs.Patterns.{symbol_read, takes_name, opening_of, branches_after, IsModuleRead, IsSymbolRead, ArePatternsRead, CountsBranches};
 
 use crate::formals::{FormalsRead, formals};
 use crate::glyph::{RuleGlyph, peek};
@@ -162,9 +162,9 @@ fn symbol(
 }
 
 // How many branches are open after a symbol.
-fn branches_behind(symbol: &PatternSymbol, branches: usize) -> usize
+fn branches_after(symbol: &PatternSymbol, branches: usize) -> usize
     requires { branches < usize.MAX }
-    ensures { result ≡ branches_behind (symbol_read symbol.now) branches }
+    ensures { result ≡ branches_after (symbol_read symbol.now) branches }
 {
     match symbol {
         PatternSymbol::Module(_) => branches,
@@ -201,7 +201,7 @@ pub(crate) fn patterns(
                 end,
             });
         };
-        branches = branches_behind(&read.symbol, branches);
+        branches = branches_after(&read.symbol, branches);
         symbols.push(read.symbol).map_err(|_| PartRefusal::Memory)?;
         end = read.end;
     }

@@ -56,8 +56,8 @@ module _ {A : Type 0} where
   pub part_from : (f : Grove A) (q i : ℕ) (s : IsSplit (level_with f q) i q) (j : ℕ) → In j (q ∷ s.after) → In j (level_with f q)
   part_from f q i s j h = subst (In j) (sym s.whole) (in_right s.before (q ∷ s.after) j h)
 
-  pub part_behind : (f : Grove A) (q i : ℕ) (s : IsSplit (level_with f q) i q) (j : ℕ) → In j s.after → In j (level_with f q)
-  part_behind f q i s j h = part_from f q i s j (inr h)
+  pub part_after : (f : Grove A) (q i : ℕ) (s : IsSplit (level_with f q) i q) (j : ℕ) → In j s.after → In j (level_with f q)
+  part_after f q i s j h = part_from f q i s j (inr h)
 
   pub part_up_to : (f : Grove A) (q i : ℕ) (s : IsSplit (level_with f q) i q) (j : ℕ) → In j (s.before ++ q ∷ []) → In j (level_with f q)
   part_up_to f q i s j h = by s.before s.after (level_with f q) s.whole h

@@ -89,7 +89,7 @@ module _ (old new : Generation) (touched turned looked : List ℕ) (l : AreLooke
       elim (l.closes q r mates ir) [
         | inl t ↦ inl (l.branches r j t ir (other_end (new.kind r) (v.kind ∙ (ended old.kind 0 mates.after r mates.closes).1)) (subst (λ p. In j (new.own p)) same ij))
         | inr n ↦ elim (l.changed q (opener_there new.kind new.nodes q r n)) [
-          | inl t ↦ inl (l.mates_behind q r j n t (subst (λ p. In j (new.own p)) same ij))
+          | inl t ↦ inl (l.mates_after q r j n t (subst (λ p. In j (new.own p)) same ij))
           | inr w ↦ inr (brackets_kept q r k j w v mates n (subst (In k) (sym eq) (inl refl)) m)
         ]
       ]

@@ -19,7 +19,7 @@ use Rattle.lsys_reads.specs.Neighbours.{numbered_level, mate_on, neighbours_on}
 use Rattle.lsys_reads.specs.Seats.{neighbours_at}
 use Rattle.lsys_forest.specs.Pairs.{seen_at}
 use Rattle.lsys_reads.specs.Standings.{seating_of, AreOldAndNew, AreSeated, StandsAsBefore}
-use Rattle.lsys_reads.proofs.LevelLemmas.{place_in, get_index, index_less, lineage_named, named_by_number, symbol_at, mates_ahead, mates_behind, mates_none}
+use Rattle.lsys_reads.proofs.LevelLemmas.{place_in, get_index, index_less, lineage_named, named_by_number, symbol_at, mates_ahead, mates_after, mates_none}
 
 seen_with : (l : List ℕ) (e : Seen) → seen_by (with_lineage l e) ≡ e
 seen_with l Push = refl
@@ -49,7 +49,7 @@ module _ {A : Type 0} where
     level = subst IsLevel (sym (seated_is naming m xs)) h;
     names = λ k i. lineage_named naming k (m k);
     opens = λ p q j k a hp hq. ap (mate_on m xs) (one_index naming m xs h p j hp) ∙ mates_ahead m xs p q k (numbered p q a) hq;
-    closes = λ p q j k a hp hq. ap (mate_on m xs) (one_index naming m xs h q k hq) ∙ mates_behind m xs q p j (numbered p q a) hp;
+    closes = λ p q j k a hp hq. ap (mate_on m xs) (one_index naming m xs h q k hq) ∙ mates_after m xs q p j (numbered p q a) hp;
     modules = λ k l v i e.
         let p = place_in k xs (among k xs i) in
         let there = get_index k xs (index_less k xs p.0 p.1) in

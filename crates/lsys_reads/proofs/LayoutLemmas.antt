@@ -139,7 +139,7 @@ others_stay cells cells1 cells2 list heads n p laid placed written many k other 
           | inl below ↦ inl below
           | inr above ↦ inr (let e : length list ≡ (head_at heads n).room = many ∙ ap (λ (x : Head). x.room) same in omega (arith, above, e))
         ])
-    away (inr behind) = inl (let inside = laid.inside k in omega (arith, inside, behind))
+    away (inr later) = inl (let inside = laid.inside k in omega (arith, inside, later))
 
 -- a row that was placed is apart from the others
 pub apart_placed : (cells cells1 : List ℕ) (heads : List Head) (n : ℕ) (p : Head) → IsLaid heads (length cells) → ComesToPlace cells cells1 (head_at heads n) p → (k : ℕ) → k ≢ n → HaveApartCells p (head_at heads k)
@@ -147,7 +147,7 @@ apart_placed cells cells1 heads n p laid placed k other = away placed.elsewhere
   where
     away : (p ≡ head_at heads n) ⊎ (length cells ≤ p.start) → HaveApartCells p (head_at heads k)
     away (inl same) = subst (λ (x : Head). HaveApartCells x (head_at heads k)) (sym same) (laid.apart n k (λ e. other (sym e)))
-    away (inr behind) = inr (let inside = laid.inside k in omega (arith, inside, behind))
+    away (inr later) = inr (let inside = laid.inside k in omega (arith, inside, later))
 
 -- one head more that has no cells
 head_at_more : (heads : List Head) (k : ℕ) → head_at (heads ++ empty_head ∷ []) k ≡ head_at heads k

@@ -9,7 +9,7 @@ use Rattle.std.proofs.lemmas.Option.{slice_get-map, slice_get_past, none-some}
 use Rattle.lsys_spec.specs.Rows.{In, first_in}
 use Rattle.lsys_spec.specs.Levels as L
 use Rattle.lsys_spec.specs.Levels.{AreMates, lineage}
-use Rattle.lsys_spec.specs.Standings.{mate_at, mate_ahead, mate_behind}
+use Rattle.lsys_spec.specs.Standings.{mate_at, mate_ahead, mate_after}
 use Rattle.lsys_spec.proofs.Around.{ends_at, items_push, way_pop}
 use Rattle.lsys_level.specs.Spots.{Seen, Push, Pop, Module, Spotted, with_lineage, named, spots_at, level_by, spotted_at, IsBracket, IsSpot, IsMate}
 use Rattle.lsys_laws.specs.Seams.{node_before}
@@ -103,14 +103,14 @@ module _ {A : Type 0} where
       ∙ ap (λ i. option_and_then first_in (mate_ahead i)) (items_push y p q o.0 c.0 a o.1 c.1)
       ∙ ap first_in l
 
-  pub mates_behind : (m : Nodes A) (xs : List ℕ) (p q j : ℕ) → AreMates (numbered_level m xs) q p → slice_get xs q ≡ Some j → mate_on m xs p ≡ Some j
-  mates_behind m xs p q j a there =
+  pub mates_after : (m : Nodes A) (xs : List ℕ) (p q j : ℕ) → AreMates (numbered_level m xs) q p → slice_get xs q ≡ Some j → mate_on m xs p ≡ Some j
+  mates_after m xs p q j a there =
       let y = numbered_level m xs in
       let o = a.opens in
       let c = ends_at y q p a in
       let l : o.0 ≡ j ∷ [] = lineage_at (λ k. k ∷ []) m xs q j (L.Push o.0) there o.1 in
       ap (λ s. option_and_then first_in (mate_at y p s)) c.1
-      ∙ ap (λ w. option_and_then first_in (mate_behind w)) (way_pop y p q o.0 c.0 a o.1 c.1)
+      ∙ ap (λ w. option_and_then first_in (mate_after w)) (way_pop y p q o.0 c.0 a o.1 c.1)
       ∙ ap first_in l
 
   pub mates_none : (m : Nodes A) (xs : List ℕ) (p k : ℕ) (v : L.ModuleValue) → slice_get xs p ≡ Some k → (spot_in k (m k)).seen ≡ Module v → mate_on m xs p ≡ None
@@ -177,7 +177,7 @@ module _ {A : Type 0} where
   pop_mate f k r h seen level mate =
       let o = mate.closes seen in
       told_other k r (other f k r (λ e. omega (arith, e, o.0)))
-      ∙ sym (mates_behind (now_of f) (level_around f k) (place_of_node f k) (place_of_node f r) r (as_numbered f k (place_of_node f r) (place_of_node f k) h o.1) (there_is f k r h level mate.within))
+      ∙ sym (mates_after (now_of f) (level_around f k) (place_of_node f k) (place_of_node f r) r (as_numbered f k (place_of_node f r) (place_of_node f k) h o.1) (there_is f k r h level mate.within))
 
   pub no_mate : (f : Grove A) (k : ℕ) (v : L.ModuleValue) → IsOnLevel f k → option_map (λ (s : Spotted). s.seen) (spotted_at (complete_levels f) (level_of_node f k) (place_of_node f k)) ≡ Some (Module v)
       → neighbour_told k k ≡ mate_on (now_of f) (level_around f k) (place_of_node f k)

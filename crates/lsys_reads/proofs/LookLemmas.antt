@@ -1,7 +1,7 @@
 -- Nodes at a seam were looked at.
 use Rattle.std.proofs.Common.{◌≡◌, ◌⊎◌, ℕ, List, sym, ap, ◌∙◌, inl, inr, subst}
 use Rattle.lsys_spec.specs.Rows.{In, AreApart, flat}
-use Rattle.lsys_laws.specs.Seams.{right_of, left_of, AreTurned, IsRightSeam, child_of_touched, before_touched, up_to_turned, IsLeftSeam, kid_of_touched, behind_touched, from_turned}
+use Rattle.lsys_laws.specs.Seams.{right_of, left_of, AreTurned, IsRightSeam, child_of_touched, before_touched, up_to_turned, IsLeftSeam, kid_of_touched, after_touched, from_turned}
 use Rattle.lsys_laws.proofs.Joints.{seamed}
 use Rattle.lsys_laws.proofs.Mirrors.{seamed_left}
 use Rattle.lsys_forest.specs.Groves.{Grove, now_of}
@@ -22,7 +22,7 @@ module _ {A : Type 0} (f : Grove A) (t : ℕ) (own : ℕ → List ℕ) (xs touch
 
   left_seam : (k : ℕ) → IsLeftSeam touched turned (kids_of f) (level_nodes (now_of f) f.root t) k → In k looked
   left_seam k (kid_of_touched q there h among) = (l.around q h).children k among
-  left_seam k (behind_touched q before after whole h first) = (l.around q h).behind k before after (apart_on q (l.touched_level q h)) (level_is q (l.touched_level q h) ∙ whole) first
+  left_seam k (after_touched q before after whole h first) = (l.around q h).after k before after (apart_on q (l.touched_level q h)) (level_is q (l.touched_level q h) ∙ whole) first
   left_seam k (from_turned q before after whole h first) = (l.beyond q h).from k before after (level_is q (l.turned_level q h) ∙ whole) first
 
   pub right_looked : AreTurned right_of turned xs (level_nodes (now_of f) f.root t) → (k : ℕ) → In k (kids_of_level f t) → In k looked ⊎ (right_of k (flat own xs) ≡ right_of k (kids_of_level f t))

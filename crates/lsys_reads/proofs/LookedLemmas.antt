@@ -19,7 +19,7 @@ use Rattle.lsys_forest.specs.Groves.{Grove, now_of}
 use Rattle.lsys_forest.specs.Rows.{spot_in}
 use Rattle.lsys_reads.specs.Neighbours.{neighbours_on, numbered_level, mate_on}
 use Rattle.lsys_reads.specs.Looks.{AreLookedSeats, kids_of_level, numbered_symbol, kind_in}
-use Rattle.lsys_reads.proofs.LevelLemmas.{symbol_at, named_by_number, mates_ahead, mates_behind, mates_none}
+use Rattle.lsys_reads.proofs.LevelLemmas.{symbol_at, named_by_number, mates_ahead, mates_after, mates_none}
 use Rattle.lsys_reads.proofs.LawLemmas.{among}
 use Rattle.lsys_reads.proofs.LookLemmas.{right_looked, left_looked}
 use Rattle.lsys_reads.proofs.BranchLemmas.{opener_looked, closer_looked, kind_looked}
@@ -56,7 +56,7 @@ module _ {A : Type 0} where
   close_mate m ks k j p h mates here =
       let t = there (numbered_symbol m) ks k j mates in
       let a : AreMates (numbered_level m ks) t.place t.end = subst (λ x. AreMates x t.place t.end) (symbols m ks) t.mates in
-      mates_behind m ks p t.place k (subst (λ q. AreMates (numbered_level m ks) t.place q) (one_place m ks h t.end p j t.closes here) a) t.opens
+      mates_after m ks p t.place k (subst (λ q. AreMates (numbered_level m ks) t.place q) (one_place m ks h t.end p j t.closes here) a) t.opens
 
   no_mates : (m : Nodes A) (ks : List ℕ) (k p : ℕ) → kind_in m k ≡ Neither → slice_get ks p ≡ Some k → mate_on m ks p ≡ None
   no_mates m ks k p e here =

@@ -82,7 +82,7 @@ module _ {A : Type 0} where
   around_keep f q xs ys keep looks = record {
     children = λ k h. keep k (looks.children k h);
     before = λ k left right apart whole last. keep k (looks.before k left right apart whole last);
-    behind = λ k left right apart whole first. keep k (looks.behind k left right apart whole first);
+    after = λ k left right apart whole first. keep k (looks.after k left right apart whole first);
   }
 
   pub beyond_keep : (f : Grove A) (q : ℕ) (xs ys : List ℕ) → ((k : ℕ) → In k xs → In k ys) → LooksBeyond f q xs → LooksBeyond f q ys
@@ -114,16 +114,16 @@ module _ {A : Type 0} where
   pub right_spot : (f : Grove A) (q r : ℕ) → (level_of_node f r ≡ level_of_node f q) × (place_of_node f r ≡ place_of_node f q + 1) × (place_of_node f r < length (spots_at (complete_levels f) (level_of_node f q))) → IsAtSpot f r
   right_spot f q r at = subst (λ t. place_of_node f r < length (spots_at (complete_levels f) t)) (sym at.0) at.2
 
-  pub behind_some : (f : Grove A) (q r : ℕ) (result : Option ℕ) → IsAtSpot f q → (level_of_node f r ≡ level_of_node f q) × (place_of_node f r ≡ place_of_node f q + 1) × (place_of_node f r < length (spots_at (complete_levels f) (level_of_node f q)))
+  pub after_some : (f : Grove A) (q r : ℕ) (result : Option ℕ) → IsAtSpot f q → (level_of_node f r ≡ level_of_node f q) × (place_of_node f r ≡ place_of_node f q + 1) × (place_of_node f r < length (spots_at (complete_levels f) (level_of_node f q)))
       → ((left right : List ℕ) → level_with f r ≡ left ++ r ∷ right → result ≡ first_in (kids_below (now_of f) (r ∷ right)))
       → (left right : List ℕ) → AreApart (level_with f q) → level_with f q ≡ left ++ q ∷ right → result ≡ first_in (kids_below (now_of f) right)
-  behind_some f q r result spot at told left right apart whole =
+  after_some f q r result spot at told left right apart whole =
       let place : place_of_node f q ≡ length left = ap (index_in q) whole ∙ index_at left right q (subst AreApart whole apart) in
       let there = there_is f q r spot at.0 at.2 in
       let x = right_at left right q r (place_of_node f r) (omega (arith, at.1, place)) (subst (λ ks. slice_get ks (place_of_node f r) ≡ Some r) whole there) in
       told (left ++ q ∷ []) x.0 (level_same f q r at.0 ∙ whole ∙ ap (λ ks. left ++ q ∷ ks) x.1 ∙ sym (append_assoc left (q ∷ []) (r ∷ x.0))) ∙ ap (λ ks. first_in (kids_below (now_of f) ks)) (sym x.1)
 
-  pub behind_none : (f : Grove A) (q : ℕ) → IsAtSpot f q → place_of_node f q + 1 ≡ length (spots_at (complete_levels f) (level_of_node f q)) → (left right : List ℕ) → AreApart (level_with f q) → level_with f q ≡ left ++ q ∷ right → None ≡ first_in (kids_below (now_of f) right)
-  behind_none f q spot at left right apart whole =
+  pub after_none : (f : Grove A) (q : ℕ) → IsAtSpot f q → place_of_node f q + 1 ≡ length (spots_at (complete_levels f) (level_of_node f q)) → (left right : List ℕ) → AreApart (level_with f q) → level_with f q ≡ left ++ q ∷ right → None ≡ first_in (kids_below (now_of f) right)
+  after_none f q spot at left right apart whole =
       let place : place_of_node f q ≡ length left = ap (index_in q) whole ∙ index_at left right q (subst AreApart whole apart) in
       ap (λ ks. first_in (kids_below (now_of f) ks)) (sym (none_long right (omega (arith, place, at, level_long f q spot, ap length whole, long_around left right q))))

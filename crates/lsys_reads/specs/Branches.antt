@@ -24,4 +24,4 @@ pub record AreLookedMates (old new : Generation) (touched turned looked : List �
   pub children : (q k : ℕ) → In q touched → In q new.nodes → In k (new.own q) → In k looked
   pub branches : (q k : ℕ) → In q turned → In q new.nodes → (new.kind q ≡ Neither → ⊥) → In k (new.own q) → In k looked
   pub mates : (q r k : ℕ) → AreMatesOn new q r → In r touched → In k (new.own q) → In k looked
-  pub mates_behind : (q r k : ℕ) → AreMatesOn new q r → In q touched → In k (new.own r) → In k looked
+  pub mates_after : (q r k : ℕ) → AreMatesOn new q r → In q touched → In k (new.own r) → In k looked

@@ -18,7 +18,7 @@ module _ {A : Type 0} where
   pub record LooksAround (f : Grove A) (q : ℕ) (nodes : List ℕ) : Type 0 where
     pub children : (k : ℕ) → In k (kids_in (now_of f q)) → In k nodes
     pub before : (k : ℕ) (left right : List ℕ) → AreApart (level_with f q) → level_with f q ≡ left ++ q ∷ right → last_in (kids_below (now_of f) left) ≡ Some k → In k nodes
-    pub behind : (k : ℕ) (left right : List ℕ) → AreApart (level_with f q) → level_with f q ≡ left ++ q ∷ right → first_in (kids_below (now_of f) right) ≡ Some k → In k nodes
+    pub after : (k : ℕ) (left right : List ℕ) → AreApart (level_with f q) → level_with f q ≡ left ++ q ∷ right → first_in (kids_below (now_of f) right) ≡ Some k → In k nodes
 
   -- the last child of those up to a node, and the first child of those from it on
   pub record LooksBeyond (f : Grove A) (q : ℕ) (nodes : List ℕ) : Type 0 where

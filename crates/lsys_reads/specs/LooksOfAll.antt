@@ -39,8 +39,8 @@ module _ {A : Type 0} where
       → found ≡ last_in (kids_below (now_of f) before)
 
   -- and this is the first child of those after it
-  abbrev pub IsFirstBehind : Grove A → ℕ → Option ℕ → Type 0
-  IsFirstBehind f q found =
+  abbrev pub IsFirstAfter : Grove A → ℕ → Option ℕ → Type 0
+  IsFirstAfter f q found =
       (before after : List ℕ) → AreApart (level_with f q)
       → level_with f q ≡ before ++ q ∷ after
       → found ≡ first_in (kids_below (now_of f) after)

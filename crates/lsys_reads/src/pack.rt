@@ -17,27 +17,27 @@ pub(crate) fn provide(
     alloc: Global,
     heads: &mut Vec<Head>,
     cells: &mut Vec<Tag>,
-    behind: usize,
+    after: usize,
 ) -> Result<(), AllocError>
     requires { IsLaid heads.old.items (length cells.old.items) }
     ensures pack { OnOk result (Packs heads.old.items heads.new.items cells.old.items cells.new.items) }
     ensures laid { OnOk result (IsLaid heads.new.items (length cells.new.items)) }
-    ensures capacity { OnOk result (length cells.new.items + behind ≤ vec_capacity cells.new) }
+    ensures capacity { OnOk result (length cells.new.items + after ≤ vec_capacity cells.new) }
     ensures heads { OnErr result (heads.new ≡ heads.old) }
     ensures cells { OnErr result (cells.new ≡ cells.old) }
 {
-    if has_room(cells, behind) {
+    if has_room(cells, after) {
         return Ok(());
     }
-    pack(alloc, heads, cells, behind)
+    pack(alloc, heads, cells, after)
 }
 
 /// Whether there is room for so many cells after all rows.
 #[inline]
-fn has_room(cells: &Vec<Tag>, behind: usize) -> bool
-    ensures { result ≡ true → length cells.now.items + behind ≤ vec_capacity cells.now }
+fn has_room(cells: &Vec<Tag>, after: usize) -> bool
+    ensures { result ≡ true → length cells.now.items + after ≤ vec_capacity cells.now }
 {
-    behind <= cells.capacity() - cells.len()
+    after <= cells.capacity() - cells.len()
 }
 
 /// Moves all rows to the front of a new vector, one after the other, with room for so many cells after them.
@@ -47,22 +47,22 @@ fn pack(
     alloc: Global,
     heads: &mut Vec<Head>,
     cells: &mut Vec<Tag>,
-    behind: usize,
+    after: usize,
 ) -> Result<(), AllocError>
     requires { IsLaid heads.old.items (length cells.old.items) }
     ensures pack { OnOk result (Packs heads.old.items heads.new.items cells.old.items cells.new.items) }
     ensures laid { OnOk result (IsLaid heads.new.items (length cells.new.items)) }
-    ensures capacity { OnOk result (length cells.new.items + behind ≤ vec_capacity cells.new) }
+    ensures capacity { OnOk result (length cells.new.items + after ≤ vec_capacity cells.new) }
     ensures heads { OnErr result (heads.new ≡ heads.old) }
     ensures cells { OnErr result (cells.new ≡ cells.old) }
 {
-    let mut packed = Vec::with_capacity(alloc, size(heads, behind))?;
+    let mut packed = Vec::with_capacity(alloc, size(heads, after))?;
     let mut moved = Vec::with_capacity(alloc, heads.len())?;
     while moved.len() < heads.len() {
         let head = heads[moved.len()];
         moved.push(append(&mut packed, cells, head)?)?;
     }
-    packed.reserve(behind)?;
+    packed.reserve(after)?;
     *heads = moved;
     *cells = packed;
     Ok(())
@@ -126,8 +126,8 @@ fn moved(cells: &mut Vec<Tag>, head: Head, room: usize) -> Head
 }
 
 /// How many cells a packed vector gets.
-fn size(heads: &[Head], behind: usize) -> usize {
-    let mut rows: usize = behind;
+fn size(heads: &[Head], after: usize) -> usize {
+    let mut rows: usize = after;
     for head in heads {
         rows = rows.saturating_add(head.room);
     }

@@ -28,7 +28,7 @@ impl Stretch {
     /// The run that has the cell with this number too, which is after it: it ends there, and begins where it began.
     #[inline]
     fn up_to(self, last: usize) -> Stretch
-        requires behind { self.start + self.len ≤ last }
+        requires after { self.start + self.len ≤ last }
         requires number { last < 2 ^ 63 }
         ensures start { 0 < self.len → result.start ≡ self.start }
         ensures end { result.start + result.len ≡ last + 1 }

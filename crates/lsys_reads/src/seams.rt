@@ -4,7 +4,7 @@ ghost use Rattle.lsys_spec.specs.Rows.{In};
 ghost use Rattle.lsys_forest.specs.Groves.{IsLive};
 ghost use Rattle.lsys_forest.specs.Rows.{IsAtSpot};
 ghost use Rattle.lsys_reads.specs.Looks.{LooksAround, LooksBeyond};
-ghost use Rattle.lsys_reads.specs.LooksOfAll.{IsLastBefore, IsFirstBehind, LooksAroundAll, AddsUnder, LooksBeyondAll, AddsUnderNode, AddsAtMost};
+ghost use Rattle.lsys_reads.specs.LooksOfAll.{IsLastBefore, IsFirstAfter, LooksAroundAll, AddsUnder, LooksBeyondAll, AddsUnderNode, AddsAtMost};
 
 use lsys_forest::{Forest, Kept, NodeId};
 use lsys_level::LevelView;
@@ -24,9 +24,9 @@ fn last_before<A: Kept>(forest: &Forest<A>, node: NodeId) -> Option<NodeId>
 
 /// The first child of the nodes after this one of a complete level, in which no node stands twice; none where they have no
 /// children.
-fn first_behind<A: Kept>(forest: &Forest<A>, node: NodeId) -> Option<NodeId>
+fn first_after<A: Kept>(forest: &Forest<A>, node: NodeId) -> Option<NodeId>
     requires { IsAtSpot forest.now node }
-    ensures { IsFirstBehind forest.now node result }
+    ensures { IsFirstAfter forest.now node result }
 {
     match forest.right(node) {
         Some(right) => forest.first_below(right),
@@ -93,7 +93,7 @@ fn around<A: Kept>(
 {
     looked.extend_from_slice(forest.children(node))?;
     add(looked, last_before(forest, node))?;
-    add(looked, first_behind(forest, node))?;
+    add(looked, first_after(forest, node))?;
     Ok(())
 }
 

@@ -8,8 +8,8 @@ use Rattle.lsys_spec.specs.Levels.{Push, Pop, Module, plain}
 use Rattle.lsys_spec.specs.Cuts.{Raw, Plain, Cut, cut_on, never_closes, is_cut_off}
 use Rattle.lsys_module.specs.declared.symbol.Symbol.{Symbol as Code}
 use Rattle.lsys_module.specs.Views.{symbol_of, string_of}
-use Rattle.lsys_rewrite.proofs.Behind.{drop_item}
-use Rattle.lsys_rewrite.specs.Cutting.{AreOf, marked, symbol_stays, cutting_behind, marks_from}
+use Rattle.lsys_rewrite.proofs.After.{drop_item}
+use Rattle.lsys_rewrite.specs.Cutting.{AreOf, marked, symbol_stays, next_cutting, marks_from}
 
 -- 1. by places
 
@@ -52,7 +52,7 @@ first_stays (Some (suc n)) (Plain (Push l)) x = refl
 first_stays (Some (suc n)) (Plain (Pop l)) x = refl
 
 -- and those after it
-later_off : (o : Option ℕ) (r : Raw) (x : List Raw) (p : ℕ) → off (cutting_behind o (raw_plain r)) x p ≡ off o (r ∷ x) (suc p)
+later_off : (o : Option ℕ) (r : Raw) (x : List Raw) (p : ℕ) → off (next_cutting o (raw_plain r)) x p ≡ off o (r ∷ x) (suc p)
 later_off None (Cut l) x p = refl
 later_off None (Plain (Module l m)) x p = refl
 later_off None (Plain (Push l)) x p = refl
@@ -70,7 +70,7 @@ later_off (Some (suc n)) (Plain (Pop l)) x p = refl
 marks_off : (x : List Raw) (o : Option ℕ) (p : ℕ) → p < length x → slice_index_or (marks_from o (map raw_plain x)) p false ≡ not (off o x p)
 marks_off [] o p h = absurd (omega arith)
 marks_off (r ∷ x) o zero h = first_stays o r x
-marks_off (r ∷ x) o (suc p) h = marks_off x (cutting_behind o (raw_plain r)) p (omega arith) ∙ ap not (later_off o r x p)
+marks_off (r ∷ x) o (suc p) h = marks_off x (next_cutting o (raw_plain r)) p (omega arith) ∙ ap not (later_off o r x p)
 
 -- the mark of a place
 pub marks_kept : (x : List Raw) (ys : List (S.Symbol ℤ)) (p : ℕ) → map raw_plain x ≡ ys → p < length ys → slice_index_or (marks_from None ys) p false ≡ not (is_cut_off x p)
@@ -146,19 +146,19 @@ marked_passed (b ∷ bs) [] x e = cc
 marked_passed (true ∷ bs) (y ∷ ys) x e = ap (λ zs. y ∷ zs) (marked_passed bs ys x (omega (arith, e)))
 marked_passed (false ∷ bs) (y ∷ ys) x e = marked_passed bs ys x (omega (arith, e))
 
-pub depth_behind : (o : Option ℕ) (s : S.Symbol ℤ) (i : ℕ) → IfSome o (λ n. n ≤ i) → IfSome (cutting_behind o s) (λ n. n ≤ i + 1)
-depth_behind None (S.Module n zs) i h = tt
-depth_behind None S.Push i h = tt
-depth_behind None S.Pop i h = tt
-depth_behind None S.Cut i h = omega arith
-depth_behind (Some zero) (S.Module n zs) i h = omega arith
-depth_behind (Some zero) S.Push i h = omega arith
-depth_behind (Some zero) S.Pop i h = tt
-depth_behind (Some zero) S.Cut i h = omega arith
-depth_behind (Some (suc m)) (S.Module n zs) i h = omega (arith, h)
-depth_behind (Some (suc m)) S.Push i h = omega (arith, h)
-depth_behind (Some (suc m)) S.Pop i h = omega (arith, h)
-depth_behind (Some (suc m)) S.Cut i h = omega (arith, h)
+pub depth_after : (o : Option ℕ) (s : S.Symbol ℤ) (i : ℕ) → IfSome o (λ n. n ≤ i) → IfSome (next_cutting o s) (λ n. n ≤ i + 1)
+depth_after None (S.Module n zs) i h = tt
+depth_after None S.Push i h = tt
+depth_after None S.Pop i h = tt
+depth_after None S.Cut i h = omega arith
+depth_after (Some zero) (S.Module n zs) i h = omega arith
+depth_after (Some zero) S.Push i h = omega arith
+depth_after (Some zero) S.Pop i h = tt
+depth_after (Some zero) S.Cut i h = omega arith
+depth_after (Some (suc m)) (S.Module n zs) i h = omega (arith, h)
+depth_after (Some (suc m)) S.Push i h = omega (arith, h)
+depth_after (Some (suc m)) S.Pop i h = omega (arith, h)
+depth_after (Some (suc m)) S.Cut i h = omega (arith, h)
 
 module _ (old symbols : List Code) (kept : List Bool) (i len : ℕ) (o : Option ℕ) (s : Code) (c : Cutting old symbols kept i len o) (l : i < length old) (e : s ≡ get_or symbols i s) where
   here : drop i old ≡ s ∷ drop (i + 1) symbols
@@ -167,9 +167,9 @@ module _ (old symbols : List Code) (kept : List Bool) (i len : ℕ) (o : Option 
   read : (drop (i + 1) old ≡ drop (i + 1) symbols) × (take (i + 1) old ≡ take i old ++ s ∷ [])
   read = next_rest old i s (drop (i + 1) symbols) here
 
-  marks_more : (b : Bool) → b ≡ symbol_stays o (symbol_of s) → marks_from None (string_of old) ≡ take (i + 1) (set kept i b) ++ marks_from (cutting_behind o (symbol_of s)) (string_of (drop (i + 1) old))
+  marks_more : (b : Bool) → b ≡ symbol_stays o (symbol_of s) → marks_from None (string_of old) ≡ take (i + 1) (set kept i b) ++ marks_from (next_cutting o (symbol_of s)) (string_of (drop (i + 1) old))
   marks_more b is =
-      let rest = marks_from (cutting_behind o (symbol_of s)) (string_of (drop (i + 1) old)) in
+      let rest = marks_from (next_cutting o (symbol_of s)) (string_of (drop (i + 1) old)) in
       let more : take (i + 1) (set kept i b) ≡ take i kept ++ b ∷ [] = take_more_set kept i b (omega (arith, l, c.places)) in
       let all : drop i old ≡ s ∷ drop (i + 1) old = here ∙ ap (λ xs. s ∷ xs) (sym read.0) in
       c.marks
@@ -181,7 +181,7 @@ module _ (old symbols : List Code) (kept : List Bool) (i len : ℕ) (o : Option 
   same_size : length (take i kept) ≡ length (take i old)
   same_size = length-take-le i kept (omega (arith, l, c.places)) ∙ sym (length-take-le i old (omega (arith, l)))
 
-  stays_on : true ≡ symbol_stays o (symbol_of s) → Cutting old (set symbols len s) (set kept i true) (i + 1) (len + 1) (cutting_behind o (symbol_of s))
+  stays_on : true ≡ symbol_stays o (symbol_of s) → Cutting old (set symbols len s) (set kept i true) (i + 1) (len + 1) (next_cutting o (symbol_of s))
   stays_on is = record {
     marks = marks_more true is;
     front =
@@ -193,10 +193,10 @@ module _ (old symbols : List Code) (kept : List Bool) (i len : ℕ) (o : Option 
     within = omega (arith, c.within);
     size = length-set symbols len s ∙ c.size;
     places = length-set kept i true ∙ c.places;
-    depth = depth_behind o (symbol_of s) i c.depth;
+    depth = depth_after o (symbol_of s) i c.depth;
   }
 
-  passes : false ≡ symbol_stays o (symbol_of s) → Cutting old symbols (set kept i false) (i + 1) len (cutting_behind o (symbol_of s))
+  passes : false ≡ symbol_stays o (symbol_of s) → Cutting old symbols (set kept i false) (i + 1) len (next_cutting o (symbol_of s))
   passes is = record {
     marks = marks_more false is;
     front =
@@ -207,15 +207,15 @@ module _ (old symbols : List Code) (kept : List Bool) (i len : ℕ) (o : Option 
     within = omega (arith, c.within);
     size = c.size;
     places = length-set kept i false ∙ c.places;
-    depth = depth_behind o (symbol_of s) i c.depth;
+    depth = depth_after o (symbol_of s) i c.depth;
   }
 
   -- The next symbol stays, or it doesn't.
-  module _ (b : Bool) (next : List Code) (size : ℕ) (behind : Option ℕ) (is : b ≡ symbol_stays o (symbol_of s)) (goes_on : behind ≡ cutting_behind o (symbol_of s)) where
-    pub stayed : b ≡ true → next ≡ set symbols len s → size ≡ len + 1 → Cutting old next (set kept i b) (i + 1) size behind
+  module _ (b : Bool) (next : List Code) (size : ℕ) (after : Option ℕ) (is : b ≡ symbol_stays o (symbol_of s)) (goes_on : after ≡ next_cutting o (symbol_of s)) where
+    pub stayed : b ≡ true → next ≡ set symbols len s → size ≡ len + 1 → Cutting old next (set kept i b) (i + 1) size after
     stayed t f g = rw (goes_on, f, g, t) (stays_on (sym t ∙ is))
 
-    pub passed : b ≡ false → next ≡ symbols → size ≡ len → Cutting old next (set kept i b) (i + 1) size behind
+    pub passed : b ≡ false → next ≡ symbols → size ≡ len → Cutting old next (set kept i b) (i + 1) size after
     passed t f g = rw (goes_on, f, g, t) (passes (sym t ∙ is))
 
 -- all were read

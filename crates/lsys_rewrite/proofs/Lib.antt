@@ -1,3 +1,3 @@
-pub mod Behind
+pub mod After
 pub mod Successors
 pub mod CutPlaces

@@ -12,20 +12,20 @@ use Rattle.lsys_bodies.specs.declared.body.Template.{Template}
 use Rattle.lsys_rewrite.specs.declared.refusal.FillRefusal.{FillRefusal}
 use Rattle.lsys_rewrite.specs.declared.refusal.FillRefusal.TheVariants as refusals
 use Rattle.lsys_rewrite.specs.Filled.{IsAdded, IsAddedFront}
-use Rattle.lsys_rewrite.proofs.Behind.{behind, behind_twice}
+use Rattle.lsys_rewrite.proofs.After.{after, after_twice}
 
 -- one parameter more
 pub params_more : (front : List ℤ) (t : meaning.Tree) (ts : List meaning.Tree) (bound : List ℤ) (z : ℤ) → Ok z ≡ value t bound
-    → behind front (filled_params (t ∷ ts) bound) ≡ behind (front ++ z ∷ []) (filled_params ts bound)
+    → after front (filled_params (t ∷ ts) bound) ≡ after (front ++ z ∷ []) (filled_params ts bound)
 params_more front t ts bound z h =
-    ap (λ (r : Result ℤ meaning.Arith). behind front (r and_then λ z. filled_params ts bound and_then λ zs. Ok (z ∷ zs))) (sym h)
-    ∙ behind_twice front (z ∷ []) (filled_params ts bound)
+    ap (λ (r : Result ℤ meaning.Arith). after front (r and_then λ z. filled_params ts bound and_then λ zs. Ok (z ∷ zs))) (sym h)
+    ∙ after_twice front (z ∷ []) (filled_params ts bound)
 
 -- After old stand the symbols of the templates before place i; with those of the others after them they are those of all.
 pub record Grown (old new : List Symbol) (templates : List Template) (i : ℕ) (bound : List ℤ) : Type 0 where
   pub more : List Symbol
   pub is : new ≡ old ++ more
-  pub told : behind (string_of more) (filled (map template_of (drop i templates)) bound) ≡ filled (map template_of templates) bound
+  pub told : after (string_of more) (filled (map template_of (drop i templates)) bound) ≡ filled (map template_of templates) bound
 
 -- what was there stays alone, where the list is cut back on a refusal
 pub cut_back : (r : Result (List (S.Symbol ℤ)) meaning.Arith) (old front new : List Symbol) (result : Result (Unit {0}) FillRefusal) → is_err result ≡ true

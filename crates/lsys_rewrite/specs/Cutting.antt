@@ -28,18 +28,18 @@ symbol_stays (Some zero) S.Pop = true
 symbol_stays (Some n) s = false
 
 -- after it
-abbrev pub cutting_behind : Option ℕ → S.Symbol ℤ → Option ℕ
-cutting_behind None S.Cut = Some 0
-cutting_behind None s = None
-cutting_behind (Some n) S.Push = Some (suc n)
-cutting_behind (Some zero) S.Pop = None
-cutting_behind (Some (suc n)) S.Pop = Some n
-cutting_behind (Some n) s = Some n
+abbrev pub next_cutting : Option ℕ → S.Symbol ℤ → Option ℕ
+next_cutting None S.Cut = Some 0
+next_cutting None s = None
+next_cutting (Some n) S.Push = Some (suc n)
+next_cutting (Some zero) S.Pop = None
+next_cutting (Some (suc n)) S.Pop = Some n
+next_cutting (Some n) s = Some n
 
 -- the marks of the symbols that stay
 abbrev pub marks_from : Option ℕ → List (S.Symbol ℤ) → List Bool
 marks_from cutting [] = []
-marks_from cutting (s ∷ xs) = symbol_stays cutting s ∷ marks_from (cutting_behind cutting s) xs
+marks_from cutting (s ∷ xs) = symbol_stays cutting s ∷ marks_from (next_cutting cutting s) xs
 
 -- whatever lineages the symbols have: those are marked that aren't cut off
 abbrev pub MarksKept : List Symbol → List Bool → Type 0

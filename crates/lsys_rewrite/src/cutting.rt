@@ -1,7 +1,7 @@
 //! Cuts.
 ghost use Rattle.std.specs.Prelude.{◌≡◌, ◌<◌, false, length, IfSome};
 ghost use Rattle.lsys_module.specs.Views.{symbol_of};
-ghost use Rattle.lsys_rewrite.specs.Cutting.{cutting_behind, marked, symbol_stays, IsCutOf, MarksKept};
+ghost use Rattle.lsys_rewrite.specs.Cutting.{next_cutting, marked, symbol_stays, IsCutOf, MarksKept};
 
 use lsys_module::{Symbol, SymbolList};
 
@@ -21,7 +21,7 @@ pub fn cut(symbols: &mut SymbolList, kept: &mut [bool])
     for place in 0..symbols.len() {
         let symbol = symbols.symbols()[place];
         let is_kept = stays(cutting, &symbol);
-        cutting = cutting_behind(cutting, &symbol);
+        cutting = next_cutting(cutting, &symbol);
         kept[place] = is_kept;
         if is_kept {
             symbols.set(len, symbol);
@@ -43,9 +43,9 @@ pub fn stays(cutting: Option<usize>, symbol: &Symbol) -> bool
 }
 
 /// After the next symbol, whether a branch is being cut off and how many others are open in it.
-pub fn cutting_behind(cutting: Option<usize>, symbol: &Symbol) -> Option<usize>
+pub fn next_cutting(cutting: Option<usize>, symbol: &Symbol) -> Option<usize>
     requires { IfSome cutting (λ branches. branches < usize.MAX) }
-    ensures { result ≡ cutting_behind cutting (symbol_of symbol.now) }
+    ensures { result ≡ next_cutting cutting (symbol_of symbol.now) }
 {
     match (cutting, symbol) {
         (None, Symbol::Cut) => Some(0),

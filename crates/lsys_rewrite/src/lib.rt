@@ -8,6 +8,6 @@ mod filling;
 mod refusal;
 
 pub use count::EditCount;
-pub use cutting::{cut, cutting_behind, stays};
+pub use cutting::{cut, next_cutting, stays};
 pub use filling::{fill, fill_into, fill_template};
 pub use refusal::{DeriveRefusal, FaultKind, FillRefusal};

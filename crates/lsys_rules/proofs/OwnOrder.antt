@@ -133,8 +133,8 @@ module _ (o : spec.Own) (t : List ℕ) where
       by true false h g = absurd (omega (arith, ltb-true (suc a) (suc b) h, ltb-false a b g))
       by false true h g = absurd (omega (arith, ltb-false (suc a) (suc b) h, ltb-true a b g))
 
-  move_behind : (e : Entry) (xs : List Entry) (a b : ℕ) → move_index (e ∷ xs) (1 + a) (index_before (1 + a) (suc b)) ≡ e ∷ move_index xs a (index_before a b)
-  move_behind e xs a b =
+  move_after : (e : Entry) (xs : List Entry) (a b : ℕ) → move_index (e ∷ xs) (1 + a) (index_before (1 + a) (suc b)) ≡ e ∷ move_index xs a (index_before a b)
+  move_after e xs a b =
       let next : 1 + a ≡ suc a = omega arith in
       ap (λ n. move_index (e ∷ xs) n (index_before n (suc b))) next ∙ ap (move_index (e ∷ xs) (suc a)) (one_less a b)
       ∙ within e _ (λ y. insert (remove xs a) (index_before a b) y) xs
@@ -160,7 +160,7 @@ module _ (o : spec.Own) (t : List ℕ) where
           let same : e.1.table ≡ t = own.0 ∙ sym (bytes_eq_true t e.0 k) in
           absurd (true≢false (sym g ∙ ap (λ u. comes_before u t) same ∙ never t))
       by true false k g rest = refl
-      by false true k g rest = move_behind e (insert_entry bytes_eq es t o) (spot es) (place_in (values_of es) t) ∙ ap (λ l. e ∷ l) rest
+      by false true k g rest = move_after e (insert_entry bytes_eq es t o) (spot es) (place_in (values_of es) t) ∙ ap (λ l. e ∷ l) rest
       by false false k g rest =
           let other : bytes_eq e.1.table t ≡ false = bytes_eq_sym e.1.table t ∙ ap (bytes_eq t) own.0 ∙ k in
           let first : comes_before t e.1.table ≡ true = before_turned e.1.table t other ∙ ap not g in

@@ -6,7 +6,7 @@ use Rattle.lsys_syntax.specs.Tokens.{NameText, long, Kind, LongWord, Comma, Left
 use Rattle.lsys_syntax.specs.Pieces.{Piece, blank, token, note, a_symbol, a_param, token_text, text_of}
 use Rattle.lsys_syntax.specs.Strings.{Symbol, Module, Push, Pop, Cut, ModuleName, named, Signed, signed_of, more_pieces, params_pieces, symbol_pieces, string_pieces, signed_pieces, value_pieces, string_text, ends_in_name, begins_with_letter}
 use Rattle.lsys_syntax.specs.Expressions.{Expr, only_and, or, And, only_rel, and, Rel, only_sum, compare, RelOp, equal, unequal, less, at_most, greater, at_least, Sum, only_term, total, SumOp, add, subtract, Term, only_unary, product, TermOp, multiply, divide, remainder, Unary, negated, inverted, only_atom, raised, Atom, number, name, parens, expr_kinds, and_kinds, rel_kinds, sum_kinds, term_kinds, unary_kinds, atom_kinds, rel_kind, sum_kind, term_kind, expr_pieces}
-use Rattle.lsys_syntax.specs.Commands.{Command, Numbering, as_symbol, command_pieces, list_word, set_axiom, set_depth, set_ignored, set_lattice, set_schedule, set_seed, set_version, string_behind, words_pieces}
+use Rattle.lsys_syntax.specs.Commands.{Command, Numbering, as_symbol, command_pieces, list_word, set_axiom, set_depth, set_ignored, set_lattice, set_schedule, set_seed, set_version, string_after, words_pieces}
 use Rattle.lsys_syntax.specs.Rules.{Rule, Production, formal_pieces, left_pieces, predecessor_pieces, right_pieces, option_pieces, successor_pieces, rule_pieces}
 use Rattle.lsys_spec.specs.Systems.{System, Homomorphism, Own, written}
 use Rattle.lsys_spec.specs.Shown.{as_put, as_put_homomorphism, as_set_own, numbering_commands, version_commands, script_of, show_text}
@@ -15,7 +15,7 @@ use Rattle.lsys_text.specs.declared.token_kind.TokenKind.TheVariants as kinds
 use Rattle.lsys_text.specs.Tokens.{kind_of, is_mark, mark_kind, IsMarkByte}
 use Rattle.lsys_module.specs.Views.{module_name}
 use Rattle.lsys_module.proofs.PrintedTexts.{text_of-append}
-use Rattle.lsys_rules.specs.Showing.{script_line, listed_text, names_text, kinds_text, expr_behind, version_lines}
+use Rattle.lsys_rules.specs.Showing.{script_line, listed_text, names_text, kinds_text, expr_after, version_lines}
 
 -- a text of items, one after another
 pub record Gathers {X : Type 0} (whole : List X → List ℕ) (each : X → List ℕ) : Type 0 where
@@ -63,8 +63,8 @@ kinds_gather f = record {
 }
 
 -- a line, and the lines after it
-pub line-behind : (c : Command) (cs : List Command) → script_of (c ∷ cs) ≡ script_line c ++ script_of cs
-line-behind c cs = sym (append_assoc (text_of (command_pieces c)) (10 ∷ []) (script_of cs))
+pub line-after : (c : Command) (cs : List Command) → script_of (c ∷ cs) ≡ script_line c ++ script_of cs
+line-after c cs = sym (append_assoc (text_of (command_pieces c)) (10 ∷ []) (script_of cs))
 
 -- tokens of an expression
 token-texts : (ks : List Kind) (ps : List Piece) → text_of (map token ks ++ ps) ≡ kinds_text ks ++ text_of ps
@@ -145,17 +145,17 @@ pub successor-text : (xs : List (Symbol Expr)) → (xs ≡ [] → ⊥) → text_
 successor-text [] h = absurd (h refl)
 successor-text (x ∷ xs) h = refl
 
-option-text : (e : Option Expr) → text_of (option_pieces Colon e) ≡ expr_behind (codes " : ") e
+option-text : (e : Option Expr) → text_of (option_pieces Colon e) ≡ expr_after (codes " : ") e
 option-text None = refl
 option-text (Some e) = refl
 
-weight-text : (e : Option Expr) → text_of (option_pieces At e) ≡ expr_behind (codes " @ ") e
+weight-text : (e : Option Expr) → text_of (option_pieces At e) ≡ expr_after (codes " @ ") e
 weight-text None = refl
 weight-text (Some e) = refl
 
 -- a rule, part by part
 pub rule-text : (r : Rule) → text_of (rule_pieces r)
-    ≡ text_of (left_pieces r.left) ++ (text_of (symbol_pieces formal_pieces (Module r.name r.formals)) ++ (text_of (right_pieces r.right) ++ (expr_behind (codes " : ") r.condition ++ (expr_behind (codes " @ ") r.weight ++ (codes " =>" ++ text_of (successor_pieces r.successor))))))
+    ≡ text_of (left_pieces r.left) ++ (text_of (symbol_pieces formal_pieces (Module r.name r.formals)) ++ (text_of (right_pieces r.right) ++ (expr_after (codes " : ") r.condition ++ (expr_after (codes " @ ") r.weight ++ (codes " =>" ++ text_of (successor_pieces r.successor))))))
 rule-text r =
     text_of-append (left_pieces r.left) _
     ∙ ap (λ t. text_of (left_pieces r.left) ++ t)
@@ -205,7 +205,7 @@ lists_gather = record {
 
 pub own-line : (o : Own) → script_line (as_set_own o) ≡ list_word o.kind ++ ((32 ∷ o.table) ++ listed_text o.names)
 own-line o =
-    let names = text_of (string_behind (map as_symbol o.names)) in
+    let names = text_of (string_after (map as_symbol o.names)) in
     append_assoc (list_word o.kind) (32 ∷ (o.table ++ 58 ∷ names)) (10 ∷ []) ∙ ap (λ t. list_word o.kind ++ 32 ∷ t) (append_assoc o.table (58 ∷ names) (10 ∷ []))
 
 -- names that are some, after their colon
@@ -219,7 +219,7 @@ version-text s = by (s.version == 1)
   where
     by : (b : Bool) → script_of (if b then [] else set_version s.version ∷ numbering_commands s.numbering) ≡ (if b then [] else script_line (set_version s.version) ++ script_of (numbering_commands s.numbering))
     by true = refl
-    by false = line-behind (set_version s.version) (numbering_commands s.numbering)
+    by false = line-after (set_version s.version) (numbering_commands s.numbering)
 
 -- all lines of a system
 pub show-text : (s : System) → show_text s
@@ -234,14 +234,14 @@ show-text s =
     let third = set_seed s.seed ∷ fourth in
     let second = set_lattice s.lattice ∷ third in
     script-append (version_commands s) second ∙ ap (λ t. t ++ script_of second) (version-text s)
-    ∙ ap (λ t. version_lines s.version s.numbering ++ t) (line-behind (set_lattice s.lattice) third
-    ∙ ap (λ t. script_line (set_lattice s.lattice) ++ t) (line-behind (set_seed s.seed) fourth
-    ∙ ap (λ t. script_line (set_seed s.seed) ++ t) (line-behind (set_axiom (written s.axiom_string)) fifth
-    ∙ ap (λ t. script_line (set_axiom (written s.axiom_string)) ++ t) (line-behind (set_ignored s.ignored) rules
+    ∙ ap (λ t. version_lines s.version s.numbering ++ t) (line-after (set_lattice s.lattice) third
+    ∙ ap (λ t. script_line (set_lattice s.lattice) ++ t) (line-after (set_seed s.seed) fourth
+    ∙ ap (λ t. script_line (set_seed s.seed) ++ t) (line-after (set_axiom (written s.axiom_string)) fifth
+    ∙ ap (λ t. script_line (set_axiom (written s.axiom_string)) ++ t) (line-after (set_ignored s.ignored) rules
     ∙ ap (λ t. script_line (set_ignored s.ignored) ++ t) (script-append (map as_put s.rules) homs
     ∙ ap (λ t. script_of (map as_put s.rules) ++ t) (script-append (map as_put_homomorphism s.homomorphisms) lists
     ∙ ap (λ t. script_of (map as_put_homomorphism s.homomorphisms) ++ t) (script-append (map as_set_own s.own) last
-    ∙ ap (λ t. script_of (map as_set_own s.own) ++ t) (line-behind (set_schedule s.schedule) (set_depth s.depth ∷ []) ∙ ap (λ t. script_line (set_schedule s.schedule) ++ t) (line-behind (set_depth s.depth) [] ∙ append-nil (script_line (set_depth s.depth)))))))))))
+    ∙ ap (λ t. script_of (map as_set_own s.own) ++ t) (line-after (set_schedule s.schedule) (set_depth s.depth ∷ []) ∙ ap (λ t. script_line (set_schedule s.schedule) ++ t) (line-after (set_depth s.depth) [] ∙ append-nil (script_line (set_depth s.depth)))))))))))
 
 -- No mark of an expression is other than the 20 marks.
 

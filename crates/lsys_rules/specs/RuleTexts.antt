@@ -12,7 +12,7 @@ use Rattle.lsys_bodies.specs.declared.body.Template.{Template}
 use Rattle.lsys_bodies.specs.declared.rule.HomRule.{HomRule}
 use Rattle.lsys_bodies.specs.declared.rule.Rule.{Rule}
 use Rattle.lsys_bodies.specs.Views.{homomorphism_of, item_symbol, pattern_symbol, as_production, expr_in, template_symbol, as_rule}
-use Rattle.lsys_rules.specs.Showing.{expr_behind, script_line}
+use Rattle.lsys_rules.specs.Showing.{expr_after, script_line}
 
 -- 1. lines
 
@@ -48,8 +48,8 @@ right_text xs = text_of (right_pieces (map item_symbol xs))
 -- 3. the condition, the weight and the successor
 
 -- an expression after its mark, where there is one
-abbrev pub expression_behind : List ℕ → Option Expression → List ℕ
-expression_behind mark o = expr_behind mark (option_map expr_in o)
+abbrev pub expression_after : List ℕ → Option Expression → List ℕ
+expression_after mark o = expr_after mark (option_map expr_in o)
 
 -- a successor, after a blank where it has symbols
 abbrev pub successor_text : List Template → List ℕ

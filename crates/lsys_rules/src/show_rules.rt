@@ -8,7 +8,7 @@ ghost use Rattle.lsys_io.specs.Putting.{Puts};
 ghost use Rattle.lsys_text.specs.Tokens.{kind_of, name_of, IsMarkByte};
 ghost use Rattle.lsys_bodies.specs.Views.{expr_in, item_symbol, pattern_symbol, template_symbol};
 ghost use Rattle.lsys_rules.specs.Showing.{kinds_text};
-ghost use Rattle.lsys_rules.specs.RuleTexts.{body_text, expression_behind, formal_text, homomorphism_line, labelled_line, left_text, production_line, right_text, successor_text};
+ghost use Rattle.lsys_rules.specs.RuleTexts.{body_text, expression_after, formal_text, homomorphism_line, labelled_line, left_text, production_line, right_text, successor_text};
 
 use lsys_bodies::{Body, HomRule, Item, Pattern, Rule, Template};
 use lsys_expr::Expr;
@@ -109,7 +109,7 @@ fn put_option<K: Sink>(
     mark: &[u8],
     expr: &Option<Expr>,
 ) -> Result<(), Failed>
-    ensures { Puts K.Sink sink out (expression_behind mark.now expr.now) result }
+    ensures { Puts K.Sink sink out (expression_after mark.now expr.now) result }
 {
     match expr {
         Some(expr) => {

@@ -6,11 +6,11 @@ use Rattle.std.proofs.lemmas.List.{take-append-drop, map-append}
 use Rattle.lsys_io.specs.Writes.{WasPut}
 use Rattle.lsys_syntax.specs.Strings.{value_pieces, string_text, ends_in_name}
 use Rattle.lsys_spec.specs.Levels.{plain}
-use Rattle.lsys_module.specs.Printing.{symbols_behind, symbol_behind}
+use Rattle.lsys_module.specs.Printing.{symbols_after, symbol_after}
 use Rattle.lsys_module.specs.Views.{string_of, symbol_of}
 use Rattle.lsys_module.specs.declared.symbol.Symbol.{Symbol}
 use Rattle.lsys_module.specs.declared.symbol.Symbol.TheVariants.{Push, Pop, Module}
-use Rattle.lsys_module.proofs.PrintedTexts.{string-text, last_runs_on, symbols_behind-append, last_runs_on-append, one-more}
+use Rattle.lsys_module.proofs.PrintedTexts.{string-text, last_runs_on, symbols_after-append, last_runs_on-append, one-more}
 use Rattle.lsys_level.specs.Spots as spots
 use Rattle.lsys_level.specs.Spots.{Seen, Spotted, level_by, spots_at, spotted_at, with_lineage}
 use Rattle.lsys_level.specs.Views.{seen_of}
@@ -35,7 +35,7 @@ pub record Putting {K S : Type 0} (written : K → Option (List ℕ)) (faults : 
     : Type 0 where
   pub symbols : List Symbol
   pub copying : Copying level_of place_of x level at symbols
-  pub put : WasPut {A = Unit {0}} written faults before after held holds (symbols_behind value_pieces false (string_of symbols)) (Ok tt)
+  pub put : WasPut {A = Unit {0}} written faults before after held holds (symbols_after value_pieces false (string_of symbols)) (Ok tt)
   pub runs : runs_on ≡ last_runs_on false (string_of symbols)
 
 -- one symbol more
@@ -43,10 +43,10 @@ pub string_more : (symbols : List Symbol) (sight : Sight) → string_of (symbols
 string_more symbols sight = map-append symbol_of symbols (copy_of sight ∷ []) ∙ ap (λ s. string_of symbols ++ s ∷ []) (copy_is sight)
 
 pub text_more : (symbols : List Symbol) (sight : Sight) (runs_on : Bool) → runs_on ≡ last_runs_on false (string_of symbols)
-    → symbols_behind value_pieces false (string_of (symbols ++ copy_of sight ∷ [])) ≡ symbols_behind value_pieces false (string_of symbols) ++ symbol_behind value_pieces runs_on (symbol_seen sight)
+    → symbols_after value_pieces false (string_of (symbols ++ copy_of sight ∷ [])) ≡ symbols_after value_pieces false (string_of symbols) ++ symbol_after value_pieces runs_on (symbol_seen sight)
 text_more symbols sight runs_on runs =
-    ap (symbols_behind value_pieces false) (string_more symbols sight) ∙ one-more value_pieces false (string_of symbols) (symbol_seen sight)
-    ∙ ap (λ on. symbols_behind value_pieces false (string_of symbols) ++ symbol_behind value_pieces on (symbol_seen sight)) (sym runs)
+    ap (symbols_after value_pieces false) (string_more symbols sight) ∙ one-more value_pieces false (string_of symbols) (symbol_seen sight)
+    ∙ ap (λ on. symbols_after value_pieces false (string_of symbols) ++ symbol_after value_pieces on (symbol_seen sight)) (sym runs)
 
 pub runs_more : (symbols : List Symbol) (sight : Sight) → ends_in_name (symbol_seen sight) ≡ last_runs_on false (string_of (symbols ++ copy_of sight ∷ []))
 runs_more symbols sight = sym (ap (last_runs_on false) (string_more symbols sight) ∙ last_runs_on-append false (string_of symbols) (symbol_seen sight))
@@ -73,8 +73,8 @@ level_append naming (a ∷ y) z = ap (λ s. plain (with_lineage (naming a.tag) a
 pub cut_short : {S : Type 0} (level_of place_of : S → ℕ) (levels : List (List Spotted)) (level : ℕ) (spot : S) (symbols : List Symbol) (sight : Sight) (runs_on : Bool)
     → Copying level_of place_of (spots_at levels level) level (Some spot) symbols → option_map (λ a. a.seen) (spotted_at levels (level_of spot) (place_of spot)) ≡ Some (seen_of sight)
     → runs_on ≡ last_runs_on false (string_of symbols)
-    → text_of_level (spots_at levels level) ≡ (symbols_behind value_pieces false (string_of symbols) ++ symbol_behind value_pieces runs_on (symbol_seen sight))
-    ++ symbols_behind value_pieces (ends_in_name (symbol_seen sight)) (map plain (level_by (λ tag. []) (drop (suc (length symbols)) (spots_at levels level))))
+    → text_of_level (spots_at levels level) ≡ (symbols_after value_pieces false (string_of symbols) ++ symbol_after value_pieces runs_on (symbol_seen sight))
+    ++ symbols_after value_pieces (ends_in_name (symbol_seen sight)) (map plain (level_by (λ tag. []) (drop (suc (length symbols)) (spots_at levels level))))
 cut_short level_of place_of levels level spot symbols sight runs_on here seen runs =
     let naming : ℕ → List ℕ = λ tag. [] in
     let x = spots_at levels level in
@@ -85,12 +85,12 @@ cut_short level_of place_of levels level spot symbols sight runs_on here seen ru
     let parts : map plain (level_by naming x) ≡ string_of symbols ++ symbol_seen sight ∷ rest =
     ap (λ y. map plain (level_by naming y)) (sym (take-append-drop n x)) ∙ level_append naming (take n x) (drop n x)
     ∙ ap (λ s. s ++ map plain (level_by naming (drop n x))) (sym (here.front naming)) ∙ ap (λ s. string_of symbols ++ s) (next_seen naming x n sight at) in
-    string-text value_pieces (map plain (level_by naming x)) ∙ ap (symbols_behind value_pieces false) parts
-    ∙ symbols_behind-append value_pieces false (string_of symbols) (symbol_seen sight ∷ rest)
-    ∙ ap (λ on. symbols_behind value_pieces false (string_of symbols) ++ symbols_behind value_pieces on (symbol_seen sight ∷ rest)) (sym runs)
-    ∙ sym (append_assoc (symbols_behind value_pieces false (string_of symbols)) (symbol_behind value_pieces runs_on (symbol_seen sight)) (symbols_behind value_pieces (ends_in_name (symbol_seen sight)) rest))
+    string-text value_pieces (map plain (level_by naming x)) ∙ ap (symbols_after value_pieces false) parts
+    ∙ symbols_after-append value_pieces false (string_of symbols) (symbol_seen sight ∷ rest)
+    ∙ ap (λ on. symbols_after value_pieces false (string_of symbols) ++ symbols_after value_pieces on (symbol_seen sight ∷ rest)) (sym runs)
+    ∙ sym (append_assoc (symbols_after value_pieces false (string_of symbols)) (symbol_after value_pieces runs_on (symbol_seen sight)) (symbols_after value_pieces (ends_in_name (symbol_seen sight)) rest))
 
 -- the whole level is put
-pub all_put : {S : Type 0} (level_of place_of : S → ℕ) (x : List Spotted) (level : ℕ) (symbols : List Symbol) → Copying level_of place_of x level None symbols → text_of_level x ≡ symbols_behind value_pieces false (string_of symbols)
+pub all_put : {S : Type 0} (level_of place_of : S → ℕ) (x : List Spotted) (level : ℕ) (symbols : List Symbol) → Copying level_of place_of x level None symbols → text_of_level x ≡ symbols_after value_pieces false (string_of symbols)
 all_put level_of place_of x level symbols here =
     ap string_text (sym (all_copied level_of place_of x level symbols here (λ tag. []))) ∙ string-text value_pieces (string_of symbols)

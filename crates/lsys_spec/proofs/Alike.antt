@@ -5,7 +5,7 @@ use Rattle.lsys_syntax.specs.Strings.{ModuleName}
 use Rattle.lsys_spec.specs.Systems.{Each}
 use Rattle.lsys_spec.specs.Bodies.{Pattern, Patterns, Done, OneOf, BranchOf}
 use Rattle.lsys_spec.specs.Levels.{LevelSymbol, lineage, Step, Passed, Around, OutOf, Items, Nothing, One, Branch}
-use Rattle.lsys_spec.specs.Walks.{Mark, deeper, lineages_named, Entry, Compared, Ignored, Out, Branched, Told, Found, says, before, followed, modules, is_ignored, fits, left_walk, right_walk, behind, ahead, or_passed}
+use Rattle.lsys_spec.specs.Walks.{Mark, deeper, lineages_named, Entry, Compared, Ignored, Out, Branched, Told, Found, says, before, followed, modules, is_ignored, fits, left_walk, right_walk, followed_by, ahead, or_passed}
 use Rattle.lsys_spec.proofs.Meetings.{met}
 use Rattle.lsys_spec.proofs.Carries.{Carries, carries_self, carries_before, carries_followed, carries_answer}
 
@@ -40,7 +40,7 @@ left_carries S f d [] w w' a = carries_self (Settles S) (says (Some []))
 left_carries S f d (q ∷ qs) [] [] a = carries_self (Settles S) (says None)
 left_carries S f d (q ∷ qs) (Passed s ∷ w) (Passed s' ∷ w') a =
     subst (λ u. Carries (Settles S) (left_walk f d (q ∷ qs) (Passed s ∷ w)) (left_walk f d (q ∷ qs) (Passed u ∷ w'))) (sym a.0)
-    (carries_met S (is_ignored f s) (fits q s) d s (left_walk f d (q ∷ qs) w) (left_walk f d (q ∷ qs) w') (behind s (left_walk f d qs w)) (behind s (left_walk f d qs w'))
+    (carries_met S (is_ignored f s) (fits q s) d s (left_walk f d (q ∷ qs) w) (left_walk f d (q ∷ qs) w') (followed_by s (left_walk f d qs w)) (followed_by s (left_walk f d qs w'))
     (λ k. left_carries S f d (q ∷ qs) w w' (a.1 k))
     (λ k. carries_answer (Settles S) (option_map (λ ms. ms ++ modules s)) (left_walk f d qs w) (left_walk f d qs w') (left_carries S f d qs w w' (a.1 k))))
 left_carries S f d (q ∷ qs) (OutOf o ∷ w) (OutOf o' ∷ w') a =

@@ -6,7 +6,7 @@ use Rattle.std.proofs.Math.Bool.{and_assoc, and-false, and-true}
 use Rattle.lsys_syntax.specs.Strings.{ModuleName}
 use Rattle.lsys_spec.specs.Bodies.{Body, Pattern, Patterns, Done, OneOf, BranchOf}
 use Rattle.lsys_spec.specs.Levels.{ModuleValue, LevelSymbol, Push, Pop, Module, Step, Passed, Around, OutOf, Reading, restored, read, way, items_from, Items, Nothing, One, Branch}
-use Rattle.lsys_spec.specs.Walks.{Mark, deeper, Told, Found, modules, is_ignored, fits, says, behind, ahead, or_passed, left_walk, right_walk}
+use Rattle.lsys_spec.specs.Walks.{Mark, deeper, Told, Found, modules, is_ignored, fits, says, followed_by, ahead, or_passed, left_walk, right_walk}
 use Rattle.lsys_spec.proofs.Meetings.{met}
 use Rattle.lsys_spec.specs.Choice.{right_after, contexts}
 use Rattle.lsys_spec.specs.Contexts.{Paths, given_back, unless_ignored, read_path, path, suits, all_suit, last, where_true, left, inner_or, right, around}
@@ -155,7 +155,7 @@ left_of f d (q ∷ qs) (Around o c ∷ w) h = left_of f d (q ∷ qs) w h
 left_of f d (q ∷ qs) (Passed (Push l) ∷ w) h = elim h [ ]
 left_of f d (q ∷ qs) (Passed (Pop l) ∷ w) h = elim h [ ]
 left_of f d (q ∷ qs) (Passed (Module l m) ∷ w) h =
-    met_answer (f m.name) (suits q m) d (Module l m) (left_walk f d (q ∷ qs) w) (behind (Module l m) (left_walk f d qs w))
+    met_answer (f m.name) (suits q m) d (Module l m) (left_walk f d (q ∷ qs) w) (followed_by (Module l m) (left_walk f d qs w))
     ∙ ap (λ a. cond (f m.name) a (cond (suits q m) (option_map (λ ms. ms ++ m ∷ []) (left_walk f d qs w).answer) None)) (left_of f d (q ∷ qs) w h ∙ ap (λ t. left t (path_of f w)) (turned q qs))
     ∙ ap (λ a. cond (f m.name) (left (reverse qs ++ q ∷ []) (path_of f w)) (cond (suits q m) (option_map (λ ms. ms ++ m ∷ []) a) None)) (left_of f d qs w h)
     ∙ sym (one_left (f m.name) (suits q m) (reverse qs) (path_of f w) q m refl)

@@ -93,8 +93,8 @@ tested (r ∷ x) (suc q) (suc p) h =
     or_later (is_percent r && never_closes 0 (take (suc p) x)) (is_cut_off x p)
     (tested x q p (record { there = h.there; reaches = omega (arith, h.reaches); stays = ap (λ n. never_closes 0 (take n (drop (suc q) x))) n ∙ h.stays }))
 
-behind : (r : Raw) (x : List Raw) (p : ℕ) → IsCutOff x p → IsCutOff (r ∷ x) (suc p)
-behind r x p c =
+after : (r : Raw) (x : List Raw) (p : ℕ) → IsCutOff x p → IsCutOff (r ∷ x) (suc p)
+after r x p c =
     let n : suc p - suc c.0 ≡ p - c.0 = omega arith in
     (suc c.0, record { there = c.1.there; reaches = omega (arith, c.1.reaches); stays = ap (λ n. never_closes 0 (take n (drop (suc c.0) x))) n ∙ c.1.stays })
 
@@ -102,11 +102,11 @@ pub found : (x : List Raw) (p : ℕ) → is_cut_off x p ≡ true → IsCutOff x 
 found [] p h = cc
 found (Cut l ∷ x) zero h = (0, record { there = (l, refl); reaches = omega arith; stays = refl })
 found (Plain s ∷ x) zero h = cc
-found (Plain s ∷ x) (suc p) h = behind (Plain s) x p (found x p h)
+found (Plain s ∷ x) (suc p) h = after (Plain s) x p (found x p h)
 found (Cut l ∷ x) (suc p) h = of (never_closes 0 (take (suc p) x)) refl h (found x p)
   where
     of : (b : Bool) → never_closes 0 (take (suc p) x) ≡ b → b || is_cut_off x p ≡ true → (is_cut_off x p ≡ true → IsCutOff x p) → IsCutOff (Cut l ∷ x) (suc p)
     of true e i f =
         let n : suc p - 0 ≡ suc p = omega arith in
         (0, record { there = (l, refl); reaches = omega arith; stays = ap (λ n. never_closes 0 (take n x)) n ∙ e })
-    of false e i f = behind (Cut l) x p (f i)
+    of false e i f = after (Cut l) x p (f i)

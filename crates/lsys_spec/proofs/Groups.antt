@@ -79,10 +79,10 @@ decided_far most n (Yes values) place others h f = says_near most n (Failed TooF
 decided_far most n (Fails k) place others h f = says_near most n (Failed TooFar) (Failed k) h
 
 -- what follows a rule's walks: where these are too long, the fault at once
-far_behind : {A : Type 0} (most n : ℕ) (far : A) (t : Told Found) (b : Body) (next : Outcome → Told A) → next (Fails TooFar) ≡ says far
+far_after : {A : Type 0} (most n : ℕ) (far : A) (t : Told Found) (b : Body) (next : Outcome → Told A) → next (Fails TooFar) ≡ says far
     → (n + length t.entries ≤ most → (o : Outcome) → IsFar most (n + length t.entries) far (next o))
     → IsFar most n far (followed t (next (cond (ltb most (n + length t.entries)) (Fails TooFar) (fitting b t.answer))))
-far_behind {A} most n far t b next e f = at (ltb most (n + length t.entries)) refl
+far_after {A} most n far t b next e f = at (ltb most (n + length t.entries)) refl
   where
     at : (over : Bool) → ltb most (n + length t.entries) ≡ over → IsFar most n far (followed t (next (cond over (Fails TooFar) (fitting b t.answer))))
     at true h l = ap (λ (u : Told A). u.answer) e
@@ -95,7 +95,7 @@ first_far : (a : Asking) (w : List Step) (r : Items) (d : Tried) (bs : List Body
 first_far a w r d [] h = says_near a.most d.read (Failed TooFar) NoRule h
 first_far a w r d (b ∷ bs) h =
     let t : Told Found = next_contexts a w r d b in
-    far_behind a.most d.read (Failed TooFar) t b (λ o. decided o d.place (first_applying a w r (after_rule d t) bs)) refl
+    far_after a.most d.read (Failed TooFar) t b (λ o. decided o d.place (first_applying a w r (after_rule d t) bs)) refl
     (λ near o. decided_far a.most (d.read + length t.entries) o d.place (first_applying a w r (after_rule d t) bs) near (first_far a w r (after_rule d t) bs near))
 
 all_far : (a : Asking) (w : List Step) (r : Items) (d : Tried) (found : Result (List Applying) Fault) (bs : List Body) → d.read ≤ a.most → IsFar a.most d.read (Err TooFar) (all_applying a w r d found bs)
@@ -103,7 +103,7 @@ all_far a w r d (Err k) bs h = says_near a.most d.read (Err TooFar) (Err k) h
 all_far a w r d (Ok found) [] h = says_near a.most d.read (Err TooFar) (Ok found) h
 all_far a w r d (Ok found) (b ∷ bs) h =
     let t : Told Found = next_contexts a w r d b in
-    far_behind a.most d.read (Err TooFar) t b (λ o. all_applying a w r (after_rule d t) (found_with found d.place b o) bs) refl
+    far_after a.most d.read (Err TooFar) t b (λ o. all_applying a w r (after_rule d t) (found_with found d.place b o) bs) refl
     (λ near o. all_far a w r (after_rule d t) (found_with found d.place b o) bs near)
 
 pub choice_far : (a : Asking) (key : Option ℕ) (w : List Step) (r : Items) (bs : List Body) → a.most < length (choice a key w r bs).entries → (choice a key w r bs).answer ≡ Failed TooFar

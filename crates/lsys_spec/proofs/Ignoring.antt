@@ -6,7 +6,7 @@ use Rattle.lsys_spec.specs.Systems.{System, Own, Each, same_name}
 use Rattle.lsys_spec.specs.Values.{◌and_then◌}
 use Rattle.lsys_spec.specs.Bodies.{Body, Pattern, Patterns, Done, OneOf, BranchOf, table_at, group, filter_in, filter}
 use Rattle.lsys_spec.specs.Levels.{ModuleValue, LevelSymbol, Push, Pop, Module, Step, Passed, Around, OutOf, Reading, restored, read, way, Items, Nothing, One, Branch, Nest, at_root, in_branch, items_here, with_module, with_whole_branch, with_open_bracket, items_of, items_from}
-use Rattle.lsys_spec.specs.Walks.{Mark, deeper, Told, Found, says, before, followed, is_ignored, fits, behind, left_walk, ahead, joined, or_passed, right_walk}
+use Rattle.lsys_spec.specs.Walks.{Mark, deeper, Told, Found, says, before, followed, is_ignored, fits, followed_by, left_walk, ahead, joined, or_passed, right_walk}
 use Rattle.lsys_spec.proofs.Meetings.{met}
 use Rattle.lsys_spec.specs.Choice.{right_after}
 use Rattle.lsys_spec.specs.Cuts.{cut}
@@ -43,7 +43,7 @@ module _ (f g : ModuleName → Bool) where
   left_same d (q ∷ qs) (Around o c ∷ w) h = ap (before _) (left_same d (q ∷ qs) w h.1)
   left_same d (q ∷ qs) (OutOf o ∷ w) h = ap (before _) (left_same d (q ∷ qs) w h.1)
   left_same d (q ∷ qs) (Passed s ∷ w) h =
-      met_same _ _ (fits q s) d s _ _ _ _ (ignored_same s h.0) (left_same d (q ∷ qs) w h.1) (ap (behind s) (left_same d qs w h.1))
+      met_same _ _ (fits q s) d s _ _ _ _ (ignored_same s h.0) (left_same d (q ∷ qs) w h.1) (ap (followed_by s) (left_same d qs w h.1))
 
   branch_same : (inside outside both all passed past : Told Found)
       → inside ≡ outside → both ≡ all → passed ≡ past

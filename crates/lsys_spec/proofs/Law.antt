@@ -3,7 +3,7 @@ use Rattle.std.proofs.Common.{◌≡◌, ℕ, zero, suc, List, [], ◌∷◌, �
 use Rattle.std.specs.Prelude.{slice_get}
 use Rattle.std.proofs.lemmas.Option.{slice_get_past, slice_get_within}
 use Rattle.lsys_spec.specs.Levels.{LevelSymbol, Push, Pop, Module, lineage, IsLevel, way, items_from, Branch, Around}
-use Rattle.lsys_spec.specs.Standings.{standing, Settled, before_place, mate_at, mate_ahead, mate_behind}
+use Rattle.lsys_spec.specs.Standings.{standing, Settled, before_place, mate_at, mate_ahead, mate_after}
 use Rattle.lsys_spec.proofs.Alike.{AlikeItems, AlikeWays}
 use Rattle.lsys_spec.proofs.Around.{way_module, way_push, way_pop, items_none, items_pop, items_module, items_push, ends_at}
 use Rattle.lsys_spec.proofs.Standings.{stands}
@@ -68,8 +68,8 @@ alike_ways_step x y lx ly p q (Pop c) h g ih =
     let there : way y (q + 1) ≡ Around (Push o'.0) (Pop c) ∷ way y m'.0 = way_pop y q m'.0 o'.0 c m'.2 o'.1 g in
     rw (here, there) (λ so sc.
     let st : standing y q ≡ standing x p = stands x y p q (Pop c) lx ly h g sc in
-    let a : mate_at x p (slice_get x p) ≡ Some o.0 = ap (mate_at x p) h ∙ ap mate_behind here in
-    let b : mate_at y q (slice_get y q) ≡ Some o'.0 = ap (mate_at y q) g ∙ ap mate_behind there in
+    let a : mate_at x p (slice_get x p) ≡ Some o.0 = ap (mate_at x p) h ∙ ap mate_after here in
+    let b : mate_at y q (slice_get y q) ≡ Some o'.0 = ap (mate_at y q) g ∙ ap mate_after there in
     let d : Some o'.0 ≡ Some o.0 = sym b ∙ ap (λ s. s.mate) st ∙ a in
     let e : o'.0 ≡ o.0 = cc in
     let open' : slice_get y m'.0 ≡ Some (Push o.0) = o'.1 ∙ ap (λ o. Some (Push o)) e in (

@@ -5,7 +5,7 @@ use Rattle.lsys_syntax.specs.Strings.{ModuleName}
 use Rattle.lsys_spec.specs.Systems.{System, Each}
 use Rattle.lsys_spec.specs.Bodies.{Body, Pattern, Patterns, Done, OneOf, BranchOf}
 use Rattle.lsys_spec.specs.Levels.{ModuleValue, LevelSymbol, Push, Pop, Module, lineage, Step, Passed, Around, OutOf, Reading, restored, read, way, Items, Nothing, One, Branch, Nest, at_root, in_branch, items_here, with_module, with_open_bracket, items_of, items_from}
-use Rattle.lsys_spec.specs.Walks.{Mark, deeper, Entry, Compared, Ignored, Out, Branched, Told, Found, says, is_ignored, fits, left_walk, right_walk, behind, ahead, or_passed}
+use Rattle.lsys_spec.specs.Walks.{Mark, deeper, Entry, Compared, Ignored, Out, Branched, Told, Found, says, is_ignored, fits, left_walk, right_walk, followed_by, ahead, or_passed}
 use Rattle.lsys_spec.proofs.Meetings.{met}
 use Rattle.lsys_spec.specs.Choice.{Fault, Outcome, No, Yes, Fails, Choice, Asking, Tried, none_tried, after_rule, right_after, next_contexts, outcome, decided, first_applying, Applying, found_with, all_applying, choice}
 use Rattle.lsys_spec.specs.Meaning.{key_for, most_entries, asking, asked}
@@ -43,7 +43,7 @@ pub left_named : (V : LevelSymbol → Type 0) (f : ModuleName → Bool) (d : Mar
 left_named V f d [] w h = tt
 left_named V f d (q ∷ qs) [] h = tt
 left_named V f d (q ∷ qs) (Passed s ∷ w) h =
-    met_all V (is_ignored f s) (fits q s) d s (left_walk f d (q ∷ qs) w) (behind s (left_walk f d qs w)) h.0 (left_named V f d (q ∷ qs) w h.1) (left_named V f d qs w h.1)
+    met_all V (is_ignored f s) (fits q s) d s (left_walk f d (q ∷ qs) w) (followed_by s (left_walk f d qs w)) h.0 (left_named V f d (q ∷ qs) w h.1) (left_named V f d qs w h.1)
 left_named V f d (q ∷ qs) (OutOf o ∷ w) h = ((o, h.0, refl), left_named V f d (q ∷ qs) w h.1)
 left_named V f d (q ∷ qs) (Around o c ∷ w) h = (((o, h.0, refl), (c, h.1, refl)), left_named V f d (q ∷ qs) w h.2)
 

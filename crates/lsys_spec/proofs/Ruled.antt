@@ -4,7 +4,7 @@ use Rattle.lsys_syntax.specs.Strings.{ModuleName}
 use Rattle.lsys_spec.specs.Systems.{Each}
 use Rattle.lsys_spec.specs.Bodies.{Pattern, Patterns, Done, OneOf, BranchOf}
 use Rattle.lsys_spec.specs.Levels.{LevelSymbol, Step, Passed, Around, OutOf, Items, Nothing, One, Branch}
-use Rattle.lsys_spec.specs.Walks.{Mark, deeper, Entry, Told, Found, says, is_ignored, fits, left_walk, right_walk, behind, ahead, or_passed}
+use Rattle.lsys_spec.specs.Walks.{Mark, deeper, Entry, Told, Found, says, is_ignored, fits, left_walk, right_walk, followed_by, ahead, or_passed}
 use Rattle.lsys_spec.proofs.Meetings.{met}
 use Rattle.lsys_spec.proofs.Tells.{mark_of}
 use Rattle.lsys_spec.proofs.Eachs.{each_append}
@@ -21,7 +21,7 @@ pub left_ruled : (f : ModuleName → Bool) (d : Mark) (qs : List Pattern) (w : L
 left_ruled f d [] w = tt
 left_ruled f d (q ∷ qs) [] = tt
 left_ruled f d (q ∷ qs) (Passed s ∷ w) =
-    met_ruled (is_ignored f s) (fits q s) d s (left_walk f d (q ∷ qs) w) (behind s (left_walk f d qs w)) (left_ruled f d (q ∷ qs) w) (left_ruled f d qs w)
+    met_ruled (is_ignored f s) (fits q s) d s (left_walk f d (q ∷ qs) w) (followed_by s (left_walk f d qs w)) (left_ruled f d (q ∷ qs) w) (left_ruled f d qs w)
 left_ruled f d (q ∷ qs) (OutOf o ∷ w) = (refl, left_ruled f d (q ∷ qs) w)
 left_ruled f d (q ∷ qs) (Around o c ∷ w) = (refl, left_ruled f d (q ∷ qs) w)
 

@@ -4,7 +4,7 @@ use Rattle.std.specs.Prelude.{option_map}
 use Rattle.lsys_syntax.specs.Strings.{ModuleName}
 use Rattle.lsys_spec.specs.Bodies.{Pattern, Patterns, Done, OneOf, BranchOf}
 use Rattle.lsys_spec.specs.Levels.{ModuleValue, LevelSymbol, lineage, Step, Passed, Around, OutOf, Items, Nothing, One, Branch}
-use Rattle.lsys_spec.specs.Walks.{Mark, deeper, Entry, Compared, Ignored, Out, Branched, Told, Found, says, before, followed, modules, is_ignored, fits, left_walk, right_walk, behind, ahead, or_passed}
+use Rattle.lsys_spec.specs.Walks.{Mark, deeper, Entry, Compared, Ignored, Out, Branched, Told, Found, says, before, followed, modules, is_ignored, fits, left_walk, right_walk, followed_by, ahead, or_passed}
 use Rattle.lsys_spec.proofs.Meetings.{met}
 
 abbrev pub mark_of : Entry → Mark
@@ -99,10 +99,10 @@ same_fit q s s' e = ap (fits q) e
 pub left_tells : (f f' : ModuleName → Bool) (d : Mark) (qs : List Pattern) (w w' : List Step) → Tells d (left_walk f d qs w) (left_walk f' d qs w')
 left_tells f f' d [] w w' = tells_says d (Some [])
 left_tells f f' d (q ∷ qs) [] [] = tells_says d None
-left_tells f f' d (q ∷ qs) [] (Passed s ∷ w') = ended_met (is_ignored f' s) (fits q s) d s (left_walk f' d (q ∷ qs) w') (behind s (left_walk f' d qs w'))
+left_tells f f' d (q ∷ qs) [] (Passed s ∷ w') = ended_met (is_ignored f' s) (fits q s) d s (left_walk f' d (q ∷ qs) w') (followed_by s (left_walk f' d qs w'))
 left_tells f f' d (q ∷ qs) [] (OutOf o ∷ w') = ended_first d (Out d (lineage o)) (left_walk f' d (q ∷ qs) w') refl
 left_tells f f' d (q ∷ qs) [] (Around o c ∷ w') = ended_first d (Branched d (lineage o) (lineage c)) (left_walk f' d (q ∷ qs) w') refl
-left_tells f f' d (q ∷ qs) (Passed s ∷ w) [] = met_ended (is_ignored f s) (fits q s) d s (left_walk f d (q ∷ qs) w) (behind s (left_walk f d qs w))
+left_tells f f' d (q ∷ qs) (Passed s ∷ w) [] = met_ended (is_ignored f s) (fits q s) d s (left_walk f d (q ∷ qs) w) (followed_by s (left_walk f d qs w))
 left_tells f f' d (q ∷ qs) (OutOf o ∷ w) [] = ended_last d (Out d (lineage o)) (left_walk f d (q ∷ qs) w) refl
 left_tells f f' d (q ∷ qs) (Around o c ∷ w) [] = ended_last d (Branched d (lineage o) (lineage c)) (left_walk f d (q ∷ qs) w) refl
 left_tells f f' d (q ∷ qs) (OutOf o ∷ w) (OutOf o' ∷ w') =
@@ -114,17 +114,17 @@ left_tells f f' d (q ∷ qs) (OutOf o ∷ w) (Around o' c' ∷ w') =
 left_tells f f' d (q ∷ qs) (Around o c ∷ w) (OutOf o' ∷ w') =
     tells_apart d (Branched d (lineage o) (lineage c)) (Out d (lineage o')) (left_walk f d (q ∷ qs) w) (left_walk f' d (q ∷ qs) w') (λ i. cc)
 left_tells f f' d (q ∷ qs) (Passed s ∷ w) (OutOf o' ∷ w') =
-    met_apart (is_ignored f s) (fits q s) d s (left_walk f d (q ∷ qs) w) (behind s (left_walk f d qs w)) (Out d (lineage o')) (left_walk f' d (q ∷ qs) w') (λ i. cc) (λ i. cc)
+    met_apart (is_ignored f s) (fits q s) d s (left_walk f d (q ∷ qs) w) (followed_by s (left_walk f d qs w)) (Out d (lineage o')) (left_walk f' d (q ∷ qs) w') (λ i. cc) (λ i. cc)
 left_tells f f' d (q ∷ qs) (Passed s ∷ w) (Around o' c' ∷ w') =
-    met_apart (is_ignored f s) (fits q s) d s (left_walk f d (q ∷ qs) w) (behind s (left_walk f d qs w)) (Branched d (lineage o') (lineage c')) (left_walk f' d (q ∷ qs) w') (λ i. cc) (λ i. cc)
+    met_apart (is_ignored f s) (fits q s) d s (left_walk f d (q ∷ qs) w) (followed_by s (left_walk f d qs w)) (Branched d (lineage o') (lineage c')) (left_walk f' d (q ∷ qs) w') (λ i. cc) (λ i. cc)
 left_tells f f' d (q ∷ qs) (OutOf o ∷ w) (Passed s' ∷ w') =
-    apart_met (is_ignored f' s') (fits q s') d s' (left_walk f' d (q ∷ qs) w') (behind s' (left_walk f' d qs w')) (Out d (lineage o)) (left_walk f d (q ∷ qs) w) (λ i. cc) (λ i. cc)
+    apart_met (is_ignored f' s') (fits q s') d s' (left_walk f' d (q ∷ qs) w') (followed_by s' (left_walk f' d qs w')) (Out d (lineage o)) (left_walk f d (q ∷ qs) w) (λ i. cc) (λ i. cc)
 left_tells f f' d (q ∷ qs) (Around o c ∷ w) (Passed s' ∷ w') =
-    apart_met (is_ignored f' s') (fits q s') d s' (left_walk f' d (q ∷ qs) w') (behind s' (left_walk f' d qs w')) (Branched d (lineage o) (lineage c)) (left_walk f d (q ∷ qs) w) (λ i. cc) (λ i. cc)
+    apart_met (is_ignored f' s') (fits q s') d s' (left_walk f' d (q ∷ qs) w') (followed_by s' (left_walk f' d qs w')) (Branched d (lineage o) (lineage c)) (left_walk f d (q ∷ qs) w) (λ i. cc) (λ i. cc)
 left_tells f f' d (q ∷ qs) (Passed s ∷ w) (Passed s' ∷ w') =
-    tells_met (is_ignored f s) (fits q s) (is_ignored f' s') (fits q s') d s s' (left_walk f d (q ∷ qs) w) (left_walk f' d (q ∷ qs) w') (behind s (left_walk f d qs w)) (behind s' (left_walk f' d qs w'))
+    tells_met (is_ignored f s) (fits q s) (is_ignored f' s') (fits q s') d s s' (left_walk f d (q ∷ qs) w) (left_walk f' d (q ∷ qs) w') (followed_by s (left_walk f d qs w)) (followed_by s' (left_walk f' d qs w'))
     (same_fit q s s') (left_tells f f' d (q ∷ qs) w w')
-    (λ i. subst (λ u. Tells d (behind s (left_walk f d qs w)) (behind u (left_walk f' d qs w'))) (sym i)
+    (λ i. subst (λ u. Tells d (followed_by s (left_walk f d qs w)) (followed_by u (left_walk f' d qs w'))) (sym i)
     (tells_answer d (λ ms. ms ++ modules s) (left_walk f d qs w) (left_walk f' d qs w') (left_tells f f' d qs w w')))
 
 -- the right walk

@@ -17,8 +17,8 @@ CostsAddUpLineByLine =
     and costs_from answer cost M (n + 1) r.next lines
 
 -- after a line that ends the session nothing is added
-abbrev pub NothingIsAddedBehindTheEnd : Type 0
-NothingIsAddedBehindTheEnd =
+abbrev pub NothingIsAddedAfterTheEnd : Type 0
+NothingIsAddedAfterTheEnd =
     (answer : System → List ℕ → Reply) (cost : System → List ℕ → Cost) (M : ℕ → Bool)
     (n : ℕ) (s : System) (line : List ℕ) (lines : List (List ℕ))
     → (reply_or_memory answer (M n) s line).ends ≡ true

@@ -14,8 +14,8 @@ FrontsAreAnsweredAlike =
     → IsFront (out answer (front ++ 10 ∷ []) M) (out answer (front ++ 10 ∷ rest) M)
 
 -- after a `quit` that is heeded nothing is answered
-abbrev pub NothingIsAnsweredBehindTheEnd : Type 0
-NothingIsAnsweredBehindTheEnd =
+abbrev pub NothingIsAnsweredAfterTheEnd : Type 0
+NothingIsAnsweredAfterTheEnd =
     (answer : System → List ℕ → Reply) (front rest : List ℕ) (M : ℕ → Bool)
     → quits answer (front ++ 10 ∷ []) M ≡ true
     → out answer (front ++ 10 ∷ rest) M ≡ out answer (front ++ 10 ∷ []) M

@@ -26,17 +26,17 @@ mate_ahead Nothing = None
 mate_ahead (One s r) = None
 mate_ahead (Branch o c inner r) = Some (lineage c)
 
-abbrev pub mate_behind : List Step → Option (List ℕ)
-mate_behind [] = None
-mate_behind (Passed s ∷ w) = None
-mate_behind (OutOf o ∷ w) = None
-mate_behind (Around o c ∷ w) = Some (lineage o)
+abbrev pub mate_after : List Step → Option (List ℕ)
+mate_after [] = None
+mate_after (Passed s ∷ w) = None
+mate_after (OutOf o ∷ w) = None
+mate_after (Around o c ∷ w) = Some (lineage o)
 
 abbrev pub mate_at : List LevelSymbol → ℕ → Option LevelSymbol → Option (List ℕ)
 mate_at x p None = None
 mate_at x p (Some (Module l m)) = None
 mate_at x p (Some (Push l)) = mate_ahead (items_from x p)
-mate_at x p (Some (Pop l)) = mate_behind (way x (p + 1))
+mate_at x p (Some (Pop l)) = mate_after (way x (p + 1))
 
 abbrev pub standing : List LevelSymbol → ℕ → Standing
 standing x p = record { symbol = slice_get x p; before = before_place x p; after = slice_get x (p + 1); mate = mate_at x p (slice_get x p) }

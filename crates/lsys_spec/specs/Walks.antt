@@ -65,8 +65,8 @@ abbrev pub Found : Type 0
 Found = Option (List ModuleValue)
 
 -- the modules that were found, and after them this one
-abbrev pub behind : LevelSymbol → Told Found → Told Found
-behind s t = record t { answer = option_map (λ ms. ms ++ modules s) t.answer }
+abbrev pub followed_by : LevelSymbol → Told Found → Told Found
+followed_by s t = record t { answer = option_map (λ ms. ms ++ modules s) t.answer }
 
 -- Patterns, the nearest first: the modules that match, the nearest last. An ignored module is passed; any other is compared.
 abbrev pub left_walk : (ModuleName → Bool) → Mark → List Pattern → List Step → Told Found
@@ -76,7 +76,7 @@ left_walk ignored d (q ∷ qs) (Around o c ∷ w) = before (Branched d (lineage 
 left_walk ignored d (q ∷ qs) (OutOf o ∷ w) = before (Out d (lineage o)) (left_walk ignored d (q ∷ qs) w)
 left_walk ignored d (q ∷ qs) (Passed s ∷ w) =
     if is_ignored ignored s then before (Ignored d s) (left_walk ignored d (q ∷ qs) w)
-    else before (Compared d s) (if fits q s then behind s (left_walk ignored d qs w) else says None)
+    else before (Compared d s) (if fits q s then followed_by s (left_walk ignored d qs w) else says None)
 
 -- this module, and then those that were found
 abbrev pub ahead : LevelSymbol → Told Found → Told Found

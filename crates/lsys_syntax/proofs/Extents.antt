@@ -3,7 +3,7 @@ use Rattle.std.proofs.Common.{◌≡◌, ◌⊎◌, inl, inr, ℕ, zero, suc, Bo
 use Rattle.lsys_syntax.specs.Tokens.{Kind, Number, Name, Arrow, LeftParen, Bang, Minus, Ampersand, Bar}
 use Rattle.lsys_syntax.specs.Expressions.{RelOp, Expr, And, Sum, Unary, negated, inverted, only_atom, raised, Atom, expr_kinds, IsExpr}
 use Rattle.lsys_syntax.specs.ExpressionMachine.{InUnary, negating, inverting, raising, in_term, InTerm, InRel, first_sum, second_sum, InExpr, Around, no_parens, in_parens, ExpressionState, Due, Have, HalfAnd, HalfOr, Done, Stop, closing, other, half_or, ends_expr, half_and, ends_and, comparing, ends_rel, more_sum, ends_sum, AfterUnary, more_term, ends_term, what_follows, compared, closed, ended, AfterAtom, powering, ends_unary, after_unary, after_operand, after_atom, due_step, half_and_step, half_or_step, start_expr, step, run, end_step, finished}
-use Rattle.lsys_syntax.specs.ExpressionPlaces.{BeginsExpression, IsAnyExpression, BeginsAnyExpression, read_expr, Extent, ends, stops, too_deep, at_end, extent_behind, extent_from, extent}
+use Rattle.lsys_syntax.specs.ExpressionPlaces.{BeginsExpression, IsAnyExpression, BeginsAnyExpression, read_expr, Extent, ends, stops, too_deep, at_end, extent_after, extent_from, extent}
 use Rattle.lsys_syntax.specs.Completions.{spelled, completion, completed}
 use Rattle.lsys_syntax.specs.Nesting.{expr_nesting, depth, StaysWithin}
 use Rattle.lsys_syntax.specs.RuleMachine.{small}
@@ -16,7 +16,7 @@ use Rattle.lsys_syntax.proofs.ExprSound.{Good, IsOperand, IsNamed, After, step-a
 use Rattle.lsys_syntax.proofs.ExprLeads.{front-small}
 use Rattle.lsys_syntax.proofs.LineSound.{not_deep}
 use Rattle.lsys_syntax.proofs.Places.{tokens-front, is_deep}
-use Rattle.lsys_syntax.proofs.WholeExpressions.{runs, Goes, behind-going, done-or-stop}
+use Rattle.lsys_syntax.proofs.WholeExpressions.{runs, Goes, after-going, done-or-stop}
 
 -- With the first of these tokens, if there is one, the state doesn't go on.
 abbrev OverNext : ExpressionState → List Kind → Type 0
@@ -120,12 +120,12 @@ kinds (Done e) = inl (e, refl)
 kinds Stop = inr (inl refl)
 
 reached-next : (k : Kind) (ks : List Kind) (n : ℕ) (s : ExpressionState) (x : Extent) → IsGoing s → Kinds (step s (small k))
-    → (IsGoing (step s (small k)) → Reached x (step s (small k)) ks (n + 1)) → Reached (extent_behind n s (step s (small k)) x) s (k ∷ ks) n
-reached-next k ks n s x g (inl h) f = subst (λ y. Reached (extent_behind n s y x) s (k ∷ ks) n) (sym h.1)
+    → (IsGoing (step s (small k)) → Reached x (step s (small k)) ks (n + 1)) → Reached (extent_after n s (step s (small k)) x) s (k ∷ ks) n
+reached-next k ks n s x g (inl h) f = subst (λ y. Reached (extent_after n s y x) s (k ∷ ks) n) (sym h.1)
     (0, n, omega arith, omega arith, (tt, g), (refl, step-done s (small k) h.0 h.1, subst IsOver (sym h.1) tt))
-reached-next k ks n s x g (inr (inl h)) f = subst (λ y. Reached (extent_behind n s y x) s (k ∷ ks) n) (sym h)
+reached-next k ks n s x g (inr (inl h)) f = subst (λ y. Reached (extent_after n s y x) s (k ∷ ks) n) (sym h)
     (reached-end (k ∷ ks) n s (end_step s) g (end-over s) refl (subst IsOver (sym h) tt))
-reached-next k ks n s x g (inr (inr h)) f = subst (λ y. Reached y s (k ∷ ks) n) (sym (behind-going n s (step s (small k)) x h))
+reached-next k ks n s x g (inr (inr h)) f = subst (λ y. Reached y s (k ∷ ks) n) (sym (after-going n s (step s (small k)) x h))
     (reached-going k ks n s x (nat_lt 32 (depth (step s (small k)))) refl g h f)
 
 reached-from : (ks : List Kind) (n : ℕ) (s : ExpressionState) → IsGoing s → Reached (extent_from n s ks) s ks n

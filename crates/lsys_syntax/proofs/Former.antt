@@ -60,23 +60,23 @@ same_next UntilColon k h = refl
 same_next Words k h = refl
 same_next Modules k h = refl
 
-abbrev Behind : Mode → Type 0
-Behind First = ⊥
-Behind m = Unit {0}
+abbrev After : Mode → Type 0
+After First = ⊥
+After m = Unit {0}
 
-chosen_behind : (c : Bool) (m n : Mode) → Behind m → Behind n → Behind (if c then m else n)
-chosen_behind true m n g h = g
-chosen_behind false m n g h = h
+chosen_after : (c : Bool) (m n : Mode) → After m → After n → After (if c then m else n)
+chosen_after true m n g h = g
+chosen_after false m n g h = h
 
-former_behind : (m : Mode) (k : Kind) → Behind (former_next_mode m k)
-former_behind First (Word w) =
-    chosen_behind (bytes_eq w (codes "axiom") || bytes_eq w (codes "ignore")) Modules _ tt
-    (chosen_behind (bytes_eq w (codes "production") || bytes_eq w (codes "hom")) UntilColon Words tt tt)
-former_behind First k = tt
-former_behind UntilColon Colon = tt
-former_behind UntilColon k = tt
-former_behind Words k = tt
-former_behind Modules k = tt
+former_after : (m : Mode) (k : Kind) → After (former_next_mode m k)
+former_after First (Word w) =
+    chosen_after (bytes_eq w (codes "axiom") || bytes_eq w (codes "ignore")) Modules _ tt
+    (chosen_after (bytes_eq w (codes "production") || bytes_eq w (codes "hom")) UntilColon Words tt tt)
+former_after First k = tt
+former_after UntilColon Colon = tt
+former_after UntilColon k = tt
+former_after Words k = tt
+former_after Modules k = tt
 
 -- what the first token of the rest of a line is asked
 abbrev later_here : Bool → Option (Kind × ℕ) → Bool → Bool
@@ -94,7 +94,7 @@ read_step b o p skip rest = elim b [
 
 one_step : (m : Mode) (p : ℕ) (bytes : List ℕ) (b : Bool) (o : Option (Kind × ℕ)) → (m ≡ First → later_here b o (is_later_line bytes) ≡ false)
     → ((m ≡ First → is_later_line bytes ≡ false) → tokens_from m zero (p + 1) bytes ≡ former_tokens_from m zero (p + 1) bytes)
-    → ((j : Mode) (n : ℕ) → Behind j → tokens_from j n (p + 1) bytes ≡ former_tokens_from j n (p + 1) bytes)
+    → ((j : Mode) (n : ℕ) → After j → tokens_from j n (p + 1) bytes ≡ former_tokens_from j n (p + 1) bytes)
     → read_step b o p (tokens_from m zero (p + 1) bytes) (λ t. tokens_from (next_mode m t.0) t.1 (p + 1) bytes)
     ≡ read_step b o p (former_tokens_from m zero (p + 1) bytes) (λ t. former_tokens_from (former_next_mode m t.0) t.1 (p + 1) bytes)
 one_step m p bytes true o k skip rest = skip k
@@ -102,20 +102,20 @@ one_step m p bytes false None k skip rest = refl
 one_step m p bytes false (Some t) k skip rest =
     let next : next_mode m t.0 ≡ former_next_mode m t.0 = same_next m t.0 k in
     ap (λ j. before_rest (record { kind = t.0; start = p; stop = p + 1 + t.1 }) (tokens_from j t.1 (p + 1) bytes)) next
-    ∙ ap (before_rest (record { kind = t.0; start = p; stop = p + 1 + t.1 })) (rest (former_next_mode m t.0) t.1 (former_behind m t.0))
+    ∙ ap (before_rest (record { kind = t.0; start = p; stop = p + 1 + t.1 })) (rest (former_next_mode m t.0) t.1 (former_after m t.0))
 
 -- from a mode after the first token, or before a first token that is no word of version 2 alone
-first_behind : {A : Type 0} (m : Mode) → Behind m → m ≡ First → A
-first_behind First h e = elim h [ ]
-first_behind UntilColon h e = cc
-first_behind Words h e = cc
-first_behind Modules h e = cc
+first_after : {A : Type 0} (m : Mode) → After m → m ≡ First → A
+first_after First h e = elim h [ ]
+first_after UntilColon h e = cc
+first_after Words h e = cc
+first_after Modules h e = cc
 
 same_tokens_from : (bytes : List ℕ) (m : Mode) (n p : ℕ) → (m ≡ First → (n ≡ 0) × (is_later_line bytes ≡ false)) → tokens_from m n p bytes ≡ former_tokens_from m n p bytes
 same_tokens_from [] m n p h = refl
 same_tokens_from (c ∷ bytes) m (suc n) p h = same_tokens_from bytes m n (p + 1) (λ e. absurd (omega (arith, (h e).0)))
 same_tokens_from (c ∷ bytes) m zero p h =
-    one_step m p bytes (is_blank c) (token_at m c bytes) (λ e. asked e) (λ k. same_tokens_from bytes m zero (p + 1) (λ e. (refl, k e))) (λ j n b. same_tokens_from bytes j n (p + 1) (λ e. first_behind j b e))
+    one_step m p bytes (is_blank c) (token_at m c bytes) (λ e. asked e) (λ k. same_tokens_from bytes m zero (p + 1) (λ e. (refl, k e))) (λ j n b. same_tokens_from bytes j n (p + 1) (λ e. first_after j b e))
   where
     asked : m ≡ First → later_here (is_blank c) (token_at m c bytes) (is_later_line bytes) ≡ false
     asked e = ap (λ j. later_here (is_blank c) (token_at j c bytes) (is_later_line bytes)) e ∙ (h e).1

@@ -9,7 +9,7 @@ use Rattle.lsys_syntax.specs.Commands.{square, ListKind, by_name, Command, set_a
 use Rattle.lsys_syntax.specs.LineMachine.{AxiomState, Symbols, NumberDue, MinusRead, NumberRead, State, Fresh, InAxiom, ProductionDue, OneWord, TwoWords, InProduction, LabelDue, LabelRead, InHomomorphism, DropDue, Listed, of_own, listing, InNames, ScheduleDue, InSchedule, SeedDue, DepthDue, LatticeDue, StringRead, VersionDue, TableDue, TableRead, CommonDue, NumberingDue, Whole, Stop, is_stop}
 use Rattle.lsys_syntax.specs.Sentences.{IsSpelled, Begins}
 use Rattle.lsys_syntax.proofs.RuleBegins.{Begun, begun}
-use Rattle.lsys_syntax.proofs.LineHolds.{word, AxiomHolds, production_front, homomorphism_front, Holds, behind, symbol-read, number_due-holds, minus-holds, number_read-holds, rule-start}
+use Rattle.lsys_syntax.proofs.LineHolds.{word, AxiomHolds, production_front, homomorphism_front, Holds, after, symbol-read, number_due-holds, minus-holds, number_read-holds, rule-start}
 use Rattle.lsys_syntax.proofs.LineSound.{axiom-spelled, production-command, homomorphism-command, finish-spelled}
 
 -- a word of one letter
@@ -58,19 +58,19 @@ module _ (b : ℕ) where
       )
 
   begins-table : (t l : List ℕ) (ts : List Kind) → Holds b (TwoWords t l) ts → Begins b ts
-  begins-table t l ts h = begins-before ts (Colon ∷ []) (begins-production (Some t) l R.start (ts ++ Colon ∷ []) ([], behind _ ts Colon h.0, rule-start production b, h.1, h.2, tt))
+  begins-table t l ts h = begins-before ts (Colon ∷ []) (begins-production (Some t) l R.start (ts ++ Colon ∷ []) ([], after _ ts Colon h.0, rule-start production b, h.1, h.2, tt))
 
   begins-label : (l : List ℕ) (ts : List Kind) → Holds b (OneWord l) ts → Begins b ts
-  begins-label l ts h = begins-before ts (Colon ∷ []) (begins-production None l R.start (ts ++ Colon ∷ []) ([], behind _ ts Colon h.0, rule-start production b, tt, h.1, tt))
+  begins-label l ts h = begins-before ts (Colon ∷ []) (begins-production None l R.start (ts ++ Colon ∷ []) ([], after _ ts Colon h.0, rule-start production b, tt, h.1, tt))
 
   begins-image : (l : List ℕ) (ts : List Kind) → Holds b (LabelRead l) ts → Begins b ts
-  begins-image l ts h = begins-before ts (Colon ∷ []) (begins-homomorphism l R.start (ts ++ Colon ∷ []) ([], behind _ ts Colon h.0, rule-start homomorphism b, h.1, tt))
+  begins-image l ts h = begins-before ts (Colon ∷ []) (begins-homomorphism l R.start (ts ++ Colon ∷ []) ([], after _ ts Colon h.0, rule-start homomorphism b, h.1, tt))
 
   begins-names : (f : Listed) (r : List ModuleName) (ts : List Kind) → Holds b (InNames f r) ts → Begins b ts
   begins-names f r ts h = begins-whole (listing f (reversed r)) ts (finish-spelled b (InNames f r) ts h)
 
   begins-own : (f : ListKind) (t : List ℕ) (ts : List Kind) → Holds b (TableRead f t) ts → Begins b ts
-  begins-own f t ts h = begins-before ts (Colon ∷ []) (begins-names (of_own f t) [] (ts ++ Colon ∷ []) (behind _ ts Colon h.0, h.1, tt))
+  begins-own f t ts h = begins-before ts (Colon ∷ []) (begins-names (of_own f t) [] (ts ++ Colon ∷ []) (after _ ts Colon h.0, h.1, tt))
 
   -- one token is due, and ends the line
   begins-one : (c : Command) (ts : List Kind) (k : Kind) → IsSpelled b (ts ++ k ∷ []) c → Begins b ts
@@ -78,27 +78,27 @@ module _ (b : ℕ) where
 
   -- Some sentence begins with what a state has taken.
   pub line-begins : (s : State) (ts : List Kind) → (is_stop s ≡ false) → Holds b s ts → Begins b ts
-  line-begins Fresh ts g h = begins-one print_system ts (word (codes "show")) (behind [] ts (word (codes "show")) h, tt, omega arith)
+  line-begins Fresh ts g h = begins-one print_system ts (word (codes "show")) (after [] ts (word (codes "show")) h, tt, omega arith)
   line-begins (InAxiom a) ts g h = begins-axiom a ts h
-  line-begins ProductionDue ts g h = begins-before ts (word a_word ∷ []) (begins-label a_word (ts ++ word a_word ∷ []) (behind _ ts (word a_word) h, a_word-text))
+  line-begins ProductionDue ts g h = begins-before ts (word a_word ∷ []) (begins-label a_word (ts ++ word a_word ∷ []) (after _ ts (word a_word) h, a_word-text))
   line-begins (OneWord w) ts g h = begins-label w ts h
   line-begins (TwoWords t l) ts g h = begins-table t l ts h
   line-begins (InProduction t l s) ts g h = begins-production t l s ts h
-  line-begins LabelDue ts g h = begins-before ts (word a_word ∷ []) (begins-image a_word (ts ++ word a_word ∷ []) (behind _ ts (word a_word) h, a_word-text))
+  line-begins LabelDue ts g h = begins-before ts (word a_word ∷ []) (begins-image a_word (ts ++ word a_word ∷ []) (after _ ts (word a_word) h, a_word-text))
   line-begins (LabelRead l) ts g h = begins-image l ts h
   line-begins (InHomomorphism l s) ts g h = begins-homomorphism l s ts h
-  line-begins DropDue ts g h = begins-one (drop_rule a_word) ts (word a_word) (behind _ ts (word a_word) h, a_word-text, omega arith)
+  line-begins DropDue ts g h = begins-one (drop_rule a_word) ts (word a_word) (after _ ts (word a_word) h, a_word-text, omega arith)
   line-begins (InNames f r) ts g h = begins-names f r ts h
-  line-begins ScheduleDue ts g h = begins-one (set_schedule (a_word ∷ [])) ts (word a_word) (behind _ ts (word a_word) h, (a_word-text, tt), omega arith)
+  line-begins ScheduleDue ts g h = begins-one (set_schedule (a_word ∷ [])) ts (word a_word) (after _ ts (word a_word) h, (a_word-text, tt), omega arith)
   line-begins (InSchedule r) ts g h = begins-whole (set_schedule (reversed r)) ts (finish-spelled b (InSchedule r) ts h)
-  line-begins SeedDue ts g h = begins-one (set_seed 0) ts (Number 0) (behind _ ts (Number 0) h, omega arith, omega arith)
-  line-begins DepthDue ts g h = begins-one (set_depth 0) ts (Number 0) (behind _ ts (Number 0) h, omega arith, omega arith)
-  line-begins LatticeDue ts g h = begins-one (set_lattice square) ts (word (codes "square")) (behind _ ts (word (codes "square")) h, tt, omega arith)
+  line-begins SeedDue ts g h = begins-one (set_seed 0) ts (Number 0) (after _ ts (Number 0) h, omega arith, omega arith)
+  line-begins DepthDue ts g h = begins-one (set_depth 0) ts (Number 0) (after _ ts (Number 0) h, omega arith, omega arith)
+  line-begins LatticeDue ts g h = begins-one (set_lattice square) ts (word (codes "square")) (after _ ts (word (codes "square")) h, tt, omega arith)
   line-begins StringRead ts g h = begins-whole (print_string None) ts (finish-spelled b StringRead ts h)
-  line-begins VersionDue ts g h = begins-one (set_version 0) ts (Number 0) (behind _ ts (Number 0) h, omega arith, omega arith)
-  line-begins (TableDue f) ts g h = begins-before ts (word a_word ∷ []) (begins-own f a_word (ts ++ word a_word ∷ []) (behind _ ts (word a_word) h, a_word-text))
+  line-begins VersionDue ts g h = begins-one (set_version 0) ts (Number 0) (after _ ts (Number 0) h, omega arith, omega arith)
+  line-begins (TableDue f) ts g h = begins-before ts (word a_word ∷ []) (begins-own f a_word (ts ++ word a_word ∷ []) (after _ ts (word a_word) h, a_word-text))
   line-begins (TableRead f t) ts g h = begins-own f t ts h
-  line-begins CommonDue ts g h = begins-one (drop_own a_word) ts (word a_word) (behind _ ts (word a_word) h, a_word-text, omega arith)
-  line-begins NumberingDue ts g h = begins-one (set_numbering by_name) ts (word (codes "names")) (behind _ ts (word (codes "names")) h, tt, omega arith)
+  line-begins CommonDue ts g h = begins-one (drop_own a_word) ts (word a_word) (after _ ts (word a_word) h, a_word-text, omega arith)
+  line-begins NumberingDue ts g h = begins-one (set_numbering by_name) ts (word (codes "names")) (after _ ts (word (codes "names")) h, tt, omega arith)
   line-begins (Whole c) ts g h = begins-whole c ts h
   line-begins Stop ts g h = cc

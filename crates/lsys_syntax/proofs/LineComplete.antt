@@ -8,7 +8,7 @@ use Rattle.lsys_syntax.specs.Expressions.{Expr}
 use Rattle.lsys_syntax.specs.Rules.{Rule, rule_pieces, IsRule, rule_nesting}
 use Rattle.lsys_syntax.specs.RuleMachine as R
 use Rattle.lsys_syntax.specs.RuleMachine.{Form, production, homomorphism, reversed_onto, reversed, open_in, where_closed, sign_of, a_name}
-use Rattle.lsys_syntax.specs.Commands.{square, hexagonal, cubic, Command, set_axiom, put_production, drop_rule, set_ignored, set_schedule, set_seed, set_depth, set_lattice, put_homomorphism, print_string, print_segments, print_svg, print_system, quit, set_version, set_own, drop_own, set_numbering, to_ignore, to_consider, by_place, by_name, as_symbol, string_behind, words_pieces, command_pieces, HasNoCut, IsHomomorphism, IsCommand, nesting}
+use Rattle.lsys_syntax.specs.Commands.{square, hexagonal, cubic, Command, set_axiom, put_production, drop_rule, set_ignored, set_schedule, set_seed, set_depth, set_lattice, put_homomorphism, print_string, print_segments, print_svg, print_system, quit, set_version, set_own, drop_own, set_numbering, to_ignore, to_consider, by_place, by_name, as_symbol, string_after, words_pieces, command_pieces, HasNoCut, IsHomomorphism, IsCommand, nesting}
 use Rattle.lsys_syntax.specs.LineMachine.{Symbols, NumberDue, MinusRead, NumberRead, State, Fresh, InAxiom, InProduction, InHomomorphism, Listed, of_ignored, of_own, InNames, InSchedule, StringRead, Whole, Stop, axiom_popped, if_small, unless_stop, line_step, finish, line_depth, sentence_or_stop, is_stop, nesting_bound, verdict_from, verdict, sentence}
 use Rattle.lsys_syntax.proofs.Leads.{Leads, leads-append, leads-token, leads-to, leads-gap, Puts, string-leads, none_open, reversed-one, twice}
 use Rattle.lsys_syntax.proofs.ExprLeads.{Shallow}
@@ -136,7 +136,7 @@ module _ (b : ℕ) where
   each-symbol [] g = tt
   each-symbol (x ∷ xs) g = (symbol-leads x g.0, each-symbol xs g.1)
 
-  axiom-leads : (xs : List (Symbol Signed)) → EachOf (IsSymbol IsSigned) xs → balanced 0 xs ≡ true → Leads line_step (Calm b) (in_symbols []) (string_behind xs) (in_symbols (reversed_onto xs []))
+  axiom-leads : (xs : List (Symbol Signed)) → EachOf (IsSymbol IsSigned) xs → balanced 0 xs ≡ true → Leads line_step (Calm b) (in_symbols []) (string_after xs) (in_symbols (reversed_onto xs []))
   axiom-leads [] g e = refl
   axiom-leads (x ∷ xs) g e = string-leads line_step (Calm b) in_symbols signed_pieces (x ∷ xs) [] (each-symbol (x ∷ xs) g) e
 
@@ -161,7 +161,7 @@ module _ (b : ℕ) where
       leads-token line_step (Calm b) (name_kind n) (gap a l ++ rest) (InNames g r) (InNames g (n ∷ r)) (InNames g (reversed_onto ns (n ∷ r))) (names-step g n r) tt
       (leads-gap line_step (Calm b) a l rest (InNames g (n ∷ r)) (InNames g (reversed_onto ns (n ∷ r))) (names-lead g ns (n ∷ r)))
 
-  listed-lead : (g : Listed) (ns : List ModuleName) → Leads line_step (Calm b) (InNames g []) (string_behind (map as_symbol ns)) (InNames g (reversed_onto ns []))
+  listed-lead : (g : Listed) (ns : List ModuleName) → Leads line_step (Calm b) (InNames g []) (string_after (map as_symbol ns)) (InNames g (reversed_onto ns []))
   listed-lead g [] = refl
   listed-lead g (n ∷ ns) = names-lead g (n ∷ ns) []
 

@@ -134,8 +134,8 @@ numbering-holds b w =
     (if-word P w (codes "names") _ _ (λ e. (same (codes "names") e, tt, omega arith)) tt)
 
 -- a token after those that are known
-pub behind : (ks ts : List Kind) (k : Kind) → ks ≡ ts → ks ++ k ∷ [] ≡ ts ++ k ∷ []
-behind ks ts k e = ap (λ x. x ++ k ∷ []) e
+pub after : (ks ts : List Kind) (k : Kind) → ks ≡ ts → ks ++ k ∷ [] ≡ ts ++ k ∷ []
+after ks ts k e = ap (λ x. x ++ k ∷ []) e
 
 -- the string of an axiom
 module _ (b : ℕ) (r : List (Symbol Signed)) (ts : List Kind) (h : AxiomHolds (Symbols r) ts) where
@@ -177,23 +177,23 @@ below m n e = grind (arith, nat_tests, e)
 at_most : (m n : ℕ) → nat_le m n ≡ true → m ≤ n
 at_most m n e = grind (arith, nat_tests, e)
 
-one-behind : (a t ps : List Kind) (n k : Kind) → a ++ (t ++ n ∷ (ps ++ k ∷ [])) ≡ (a ++ (t ++ n ∷ ps)) ++ k ∷ []
-one-behind a t ps n k = simp append_assoc refl
+one-after : (a t ps : List Kind) (n k : Kind) → a ++ (t ++ n ∷ (ps ++ k ∷ [])) ≡ (a ++ (t ++ n ∷ ps)) ++ k ∷ []
+one-after a t ps n k = simp append_assoc refl
 
-two-behind : (a t ps : List Kind) (n j k : Kind) → a ++ (t ++ n ∷ (ps ++ j ∷ k ∷ [])) ≡ (a ++ (t ++ n ∷ (ps ++ j ∷ []))) ++ k ∷ []
-two-behind a t ps n j k = simp append_assoc refl
+two-after : (a t ps : List Kind) (n j k : Kind) → a ++ (t ++ n ∷ (ps ++ j ∷ k ∷ [])) ≡ (a ++ (t ++ n ∷ (ps ++ j ∷ []))) ++ k ∷ []
+two-after a t ps n j k = simp append_assoc refl
 
 pub number_due-holds : (b : ℕ) (r : List (Symbol Signed)) (n : ModuleName) (zs : List Signed) (ts : List Kind) (k : Kind) → AxiomHolds (NumberDue r n zs) ts → Holds b (number_due_step k r n zs) (ts ++ k ∷ [])
 number_due-holds b r n zs ts (Number i) h =
     if_small-holds b (nat_lt i (2 ^ 63)) (InAxiom (NumberRead r n (unsigned i ∷ zs))) (ts ++ Number i ∷ [])
-    (λ e. (one-behind axiom_front (taken signed_pieces r) (params_before signed_pieces zs) (name_kind n) (Number i) ∙ behind _ ts (Number i) h.0, h.1, (below i (2 ^ 63) e, h.2)))
-number_due-holds b r n zs ts Minus h = (one-behind axiom_front (taken signed_pieces r) (params_before signed_pieces zs) (name_kind n) Minus ∙ behind _ ts Minus h.0, h.1, h.2)
+    (λ e. (one-after axiom_front (taken signed_pieces r) (params_before signed_pieces zs) (name_kind n) (Number i) ∙ after _ ts (Number i) h.0, h.1, (below i (2 ^ 63) e, h.2)))
+number_due-holds b r n zs ts Minus h = (one-after axiom_front (taken signed_pieces r) (params_before signed_pieces zs) (name_kind n) Minus ∙ after _ ts Minus h.0, h.1, h.2)
 number_due-holds b r n zs ts k h = tt
 
 pub minus-holds : (b : ℕ) (r : List (Symbol Signed)) (n : ModuleName) (zs : List Signed) (ts : List Kind) (k : Kind) → AxiomHolds (MinusRead r n zs) ts → Holds b (minus_step k r n zs) (ts ++ k ∷ [])
 minus-holds b r n zs ts (Number i) h =
     if_small-holds b (nat_le i (2 ^ 63)) (InAxiom (NumberRead r n (minus_sign i ∷ zs))) (ts ++ Number i ∷ [])
-    (λ e. (two-behind axiom_front (taken signed_pieces r) (params_before signed_pieces zs) (name_kind n) Minus (Number i) ∙ behind _ ts (Number i) h.0, h.1, (at_most i (2 ^ 63) e, h.2)))
+    (λ e. (two-after axiom_front (taken signed_pieces r) (params_before signed_pieces zs) (name_kind n) Minus (Number i) ∙ after _ ts (Number i) h.0, h.1, (at_most i (2 ^ 63) e, h.2)))
 minus-holds b r n zs ts k h = tt
 
 pub number_read-holds : (b : ℕ) (r : List (Symbol Signed)) (n : ModuleName) (zs : List Signed) (ts : List Kind) (k : Kind) → AxiomHolds (NumberRead r n zs) ts → Holds b (number_read_step k r n zs) (ts ++ k ∷ [])
@@ -210,8 +210,8 @@ axiom-holds b (MinusRead r n zs) ts k o h = minus-holds b r n zs ts k h
 axiom-holds b (NumberRead r n zs) ts k o h = number_read-holds b r n zs ts k h
 
 -- rules
-more-behind : (front us ts : List Kind) (k : Kind) → front ++ us ≡ ts → front ++ (us ++ k ∷ []) ≡ ts ++ k ∷ []
-more-behind front us ts k e = sym (append_assoc front us (k ∷ [])) ∙ behind (front ++ us) ts k e
+more-after : (front us ts : List Kind) (k : Kind) → front ++ us ≡ ts → front ++ (us ++ k ∷ []) ≡ ts ++ k ∷ []
+more-after front us ts k e = sym (append_assoc front us (k ∷ [])) ∙ after (front ++ us) ts k e
 
 production-goes : (b : ℕ) (t : Option (List ℕ)) (l : List ℕ) (s : R.RuleState) (us ts : List Kind) → (Shallow b s → H.Holds production b s us) → production_front t l ++ us ≡ ts → IsTable t → IsWordText l → Calm b (unless_stop (InProduction t l) s)
     → Holds b (unless_stop (InProduction t l) s) ts
@@ -237,7 +237,7 @@ rule-start m b = (refl, tt, (tt, tt, tt, tt))
 
 -- names and words
 map-more : {A : Type 0} (f : A → Kind) (front : Kind) (x : A) (r : List A) (ts : List Kind) → front ∷ map f (reversed r) ≡ ts → front ∷ map f (reversed (x ∷ r)) ≡ ts ++ f x ∷ []
-map-more {A = A} f front x r ts e = ap (λ ys. front ∷ map f ys) (reversed-more x r) ∙ ap (λ ks. front ∷ ks) (spread (reversed r)) ∙ behind (front ∷ map f (reversed r)) ts (f x) e
+map-more {A = A} f front x r ts e = ap (λ ys. front ∷ map f ys) (reversed-more x r) ∙ ap (λ ks. front ∷ ks) (spread (reversed r)) ∙ after (front ∷ map f (reversed r)) ts (f x) e
   where
     spread : (ys : List A) → map f (ys ++ x ∷ []) ≡ map f ys ++ f x ∷ []
     spread [] = refl
@@ -246,7 +246,7 @@ map-more {A = A} f front x r ts e = ap (λ ys. front ∷ map f ys) (reversed-mor
 names-more : (front : List Kind) (n : ModuleName) (r : List ModuleName) (ts : List Kind) → front ++ map name_kind (reversed r) ≡ ts → front ++ map name_kind (reversed (n ∷ r)) ≡ ts ++ name_kind n ∷ []
 names-more front n r ts e =
     ap (λ ys. front ++ map name_kind ys) (reversed-more n r) ∙ ap (λ ks. front ++ ks) (spread (reversed r)) ∙ sym (append_assoc front (map name_kind (reversed r)) (name_kind n ∷ []))
-    ∙ behind (front ++ map name_kind (reversed r)) ts (name_kind n) e
+    ∙ after (front ++ map name_kind (reversed r)) ts (name_kind n) e
   where
     spread : (ys : List ModuleName) → map name_kind (ys ++ n ∷ []) ≡ map name_kind ys ++ name_kind n ∷ []
     spread [] = refl
@@ -272,8 +272,8 @@ colon-holds b s ts Colon h = h
 colon-holds b s ts k h = tt
 
 one_word-holds : (b : ℕ) (w : List ℕ) (ts : List Kind) (k : Kind) → IsToken k → Holds b (OneWord w) ts → Holds b (one_word_step w k) (ts ++ k ∷ [])
-one_word-holds b w ts (Word l) o h = (behind (word (codes "production") ∷ word w ∷ []) ts (word l) h.0, h.1, o)
-one_word-holds b w ts Colon o h = ([], behind (word (codes "production") ∷ word w ∷ []) ts Colon h.0, rule-start production b, tt, h.1, tt)
+one_word-holds b w ts (Word l) o h = (after (word (codes "production") ∷ word w ∷ []) ts (word l) h.0, h.1, o)
+one_word-holds b w ts Colon o h = ([], after (word (codes "production") ∷ word w ∷ []) ts Colon h.0, rule-start production b, tt, h.1, tt)
 one_word-holds b w ts k o h = tt
 
 schedule-holds : (b : ℕ) (r : List (List ℕ)) (ts : List Kind) (k : Kind) → IsToken k → Holds b (InSchedule r) ts → Holds b (word_step (λ w. InSchedule (w ∷ r)) k) (ts ++ k ∷ [])
@@ -284,29 +284,29 @@ schedule-holds b (v ∷ r) ts k o h = word-holds b (λ w. InSchedule (w ∷ v �
 pub step-holds : (b : ℕ) (s : State) (ts : List Kind) (k : Kind) → IsToken k → Holds b s ts → Calm b (line_step s k) → Holds b (line_step s k) (ts ++ k ∷ [])
 step-holds b Fresh ts k o h c = word-holds b first_word ts k o (λ w g. subst (λ us. Holds b (first_word w) (us ++ word w ∷ [])) h (first-holds b w))
 step-holds b (InAxiom a) ts k o h c = axiom-holds b a ts k (named-token k o) h
-step-holds b ProductionDue ts k o h c = word-holds b OneWord ts k o (λ w g. (behind (word (codes "production") ∷ []) ts (word w) h, g))
+step-holds b ProductionDue ts k o h c = word-holds b OneWord ts k o (λ w g. (after (word (codes "production") ∷ []) ts (word w) h, g))
 step-holds b (OneWord w) ts k o h c = one_word-holds b w ts k o h
 step-holds b (TwoWords t l) ts k o h c =
-    colon-holds b (InProduction (Some t) l R.start) ts k ([], behind (word (codes "production") ∷ word t ∷ word l ∷ []) ts Colon h.0, rule-start production b, h.1, h.2, tt)
+    colon-holds b (InProduction (Some t) l R.start) ts k ([], after (word (codes "production") ∷ word t ∷ word l ∷ []) ts Colon h.0, rule-start production b, h.1, h.2, tt)
 step-holds b (InProduction t l s) ts k o h c =
-    production-goes b t l (R.rule_step production s k) (h.0 ++ k ∷ []) (ts ++ k ∷ []) (S.step-holds production b s h.0 k (named-token k o) h.2) (more-behind (production_front t l) h.0 ts k h.1) h.3 h.4 c
-step-holds b LabelDue ts k o h c = word-holds b LabelRead ts k o (λ w g. (behind (word (codes "hom") ∷ []) ts (word w) h, g))
-step-holds b (LabelRead l) ts k o h c = colon-holds b (InHomomorphism l R.start) ts k ([], behind (word (codes "hom") ∷ word l ∷ []) ts Colon h.0, rule-start homomorphism b, h.1, tt)
+    production-goes b t l (R.rule_step production s k) (h.0 ++ k ∷ []) (ts ++ k ∷ []) (S.step-holds production b s h.0 k (named-token k o) h.2) (more-after (production_front t l) h.0 ts k h.1) h.3 h.4 c
+step-holds b LabelDue ts k o h c = word-holds b LabelRead ts k o (λ w g. (after (word (codes "hom") ∷ []) ts (word w) h, g))
+step-holds b (LabelRead l) ts k o h c = colon-holds b (InHomomorphism l R.start) ts k ([], after (word (codes "hom") ∷ word l ∷ []) ts Colon h.0, rule-start homomorphism b, h.1, tt)
 step-holds b (InHomomorphism l s) ts k o h c =
-    homomorphism-goes b l (R.rule_step homomorphism s k) (h.0 ++ k ∷ []) (ts ++ k ∷ []) (S.step-holds homomorphism b s h.0 k (named-token k o) h.2) (more-behind (homomorphism_front l) h.0 ts k h.1) h.3 c
-step-holds b DropDue ts k o h c = word-holds b (λ l. Whole (drop_rule l)) ts k o (λ w g. (behind (word (codes "drop") ∷ []) ts (word w) h, g, omega arith))
+    homomorphism-goes b l (R.rule_step homomorphism s k) (h.0 ++ k ∷ []) (ts ++ k ∷ []) (S.step-holds homomorphism b s h.0 k (named-token k o) h.2) (more-after (homomorphism_front l) h.0 ts k h.1) h.3 c
+step-holds b DropDue ts k o h c = word-holds b (λ l. Whole (drop_rule l)) ts k o (λ w g. (after (word (codes "drop") ∷ []) ts (word w) h, g, omega arith))
 step-holds b (InNames g r) ts k o h c = names-holds b g r ts k (sign_of k) (sign-is k) (named-token k o) h
-step-holds b ScheduleDue ts k o h c = word-holds b (λ w. InSchedule (w ∷ [])) ts k o (λ w g. (behind (word (codes "schedule") ∷ []) ts (word w) h, (g, tt)))
+step-holds b ScheduleDue ts k o h c = word-holds b (λ w. InSchedule (w ∷ [])) ts k o (λ w g. (after (word (codes "schedule") ∷ []) ts (word w) h, (g, tt)))
 step-holds b (InSchedule r) ts k o h c = schedule-holds b r ts k o h
-step-holds b SeedDue ts k o h c = number-holds b (λ n. Whole (set_seed n)) ts k o (λ n g. (behind (word (codes "seed") ∷ []) ts (Number n) h, g, omega arith))
-step-holds b DepthDue ts k o h c = number-holds b (λ n. Whole (set_depth n)) ts k o (λ n g. (behind (word (codes "depth") ∷ []) ts (Number n) h, g, omega arith))
+step-holds b SeedDue ts k o h c = number-holds b (λ n. Whole (set_seed n)) ts k o (λ n g. (after (word (codes "seed") ∷ []) ts (Number n) h, g, omega arith))
+step-holds b DepthDue ts k o h c = number-holds b (λ n. Whole (set_depth n)) ts k o (λ n g. (after (word (codes "depth") ∷ []) ts (Number n) h, g, omega arith))
 step-holds b LatticeDue ts k o h c = word-holds b lattice_named ts k o (λ w g. subst (λ us. Holds b (lattice_named w) (us ++ word w ∷ [])) h (lattice-holds b w))
-step-holds b StringRead ts k o h c = number-holds b (λ n. Whole (print_string (Some n))) ts k o (λ n g. (behind (word (codes "string") ∷ []) ts (Number n) h, g, omega arith))
-step-holds b VersionDue ts k o h c = number-holds b (λ n. Whole (set_version n)) ts k o (λ n g. (behind (word (codes "version") ∷ []) ts (Number n) h, g, omega arith))
-step-holds b (TableDue f) ts k o h c = word-holds b (TableRead f) ts k o (λ w g. (behind (word (list_word f) ∷ []) ts (word w) h, g))
+step-holds b StringRead ts k o h c = number-holds b (λ n. Whole (print_string (Some n))) ts k o (λ n g. (after (word (codes "string") ∷ []) ts (Number n) h, g, omega arith))
+step-holds b VersionDue ts k o h c = number-holds b (λ n. Whole (set_version n)) ts k o (λ n g. (after (word (codes "version") ∷ []) ts (Number n) h, g, omega arith))
+step-holds b (TableDue f) ts k o h c = word-holds b (TableRead f) ts k o (λ w g. (after (word (list_word f) ∷ []) ts (word w) h, g))
 step-holds b (TableRead f t) ts k o h c =
-    colon-holds b (InNames (of_own f t) []) ts k (behind (word (list_word f) ∷ word t ∷ []) ts Colon h.0, h.1, tt)
-step-holds b CommonDue ts k o h c = word-holds b (λ t. Whole (drop_own t)) ts k o (λ w g. (behind (word (codes "common") ∷ []) ts (word w) h, g, omega arith))
+    colon-holds b (InNames (of_own f t) []) ts k (after (word (list_word f) ∷ word t ∷ []) ts Colon h.0, h.1, tt)
+step-holds b CommonDue ts k o h c = word-holds b (λ t. Whole (drop_own t)) ts k o (λ w g. (after (word (codes "common") ∷ []) ts (word w) h, g, omega arith))
 step-holds b NumberingDue ts k o h c = word-holds b numbering_named ts k o (λ w g. subst (λ us. Holds b (numbering_named w) (us ++ word w ∷ [])) h (numbering-holds b w))
 step-holds b (Whole d) ts k o h c = tt
 step-holds b Stop ts k o h c = tt

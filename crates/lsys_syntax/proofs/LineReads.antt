@@ -6,7 +6,7 @@ use Rattle.lsys_syntax.specs.Pieces.{Piece, blank, token, note, text_of, kinds_o
 use Rattle.lsys_syntax.specs.Strings.{ModuleName, Symbol, Module, Signed, string_pieces, signed_pieces, EachOf, IsModuleName, IsSymbol, IsSigned}
 use Rattle.lsys_syntax.specs.Expressions.{Expr, IsExpr, expr_pieces}
 use Rattle.lsys_syntax.specs.Rules.{Rule, formal_pieces, left_pieces, right_pieces, option_pieces, successor_pieces, rule_pieces, IsOption, IsRule}
-use Rattle.lsys_syntax.specs.Commands.{Lattice, square, hexagonal, cubic, Command, set_axiom, put_production, drop_rule, set_ignored, set_schedule, set_seed, set_depth, set_lattice, put_homomorphism, print_string, print_segments, print_svg, print_system, quit, set_version, set_own, drop_own, set_numbering, to_ignore, to_consider, Numbering, by_place, by_name, lattice_word, numbering_word, as_symbol, string_behind, words_pieces, command_pieces, IsCommand}
+use Rattle.lsys_syntax.specs.Commands.{Lattice, square, hexagonal, cubic, Command, set_axiom, put_production, drop_rule, set_ignored, set_schedule, set_seed, set_depth, set_lattice, put_homomorphism, print_string, print_segments, print_svg, print_system, quit, set_version, set_own, drop_own, set_numbering, to_ignore, to_consider, Numbering, by_place, by_name, lattice_word, numbering_word, as_symbol, string_after, words_pieces, command_pieces, IsCommand}
 use Rattle.lsys_syntax.proofs.StringsRead.{ReadsAnywhere, string-reads, symbol-reads, signed-reads, symbol_tail}
 use Rattle.lsys_syntax.proofs.ReadBack.{reads_back}
 use Rattle.lsys_syntax.proofs.ExprReads.{pieces-reads}
@@ -81,9 +81,9 @@ numbering-text : (g : Numbering) → IsWordText (numbering_word g)
 numbering-text by_place = word_from (codes "places") refl
 numbering-text by_name = word_from (codes "names") refl
 
-behind-reads : (xs : List (Symbol Signed)) → EachOf (IsSymbol IsSigned) xs → (t : Tail) → Reads Modules t (string_behind xs)
-behind-reads [] g t = tt
-behind-reads (x ∷ xs) g t = rw (← append-nil (string_pieces signed_pieces (x ∷ xs))) (string-reads signed_pieces IsSigned signed-reads (x ∷ xs) g anything (λ e. refl) [] (λ u. tt))
+after-reads : (xs : List (Symbol Signed)) → EachOf (IsSymbol IsSigned) xs → (t : Tail) → Reads Modules t (string_after xs)
+after-reads [] g t = tt
+after-reads (x ∷ xs) g t = rw (← append-nil (string_pieces signed_pieces (x ∷ xs))) (string-reads signed_pieces IsSigned signed-reads (x ∷ xs) g anything (λ e. refl) [] (λ u. tt))
 
 names-symbols : (ns : List ModuleName) → EachOf IsModuleName ns → EachOf (IsSymbol IsSigned) (map as_symbol ns)
 names-symbols [] g = tt
@@ -95,11 +95,11 @@ words-reads (w ∷ ws) g t = (refl, (tt, g.0), words-reads ws g.1 _)
 
 -- Each piece of a printed command is read as itself.
 pub command-reads : (c : Command) → IsCommand c → Reads First anything (command_pieces c)
-command-reads (set_axiom xs) g = (refl, (tt, word_from (codes "axiom") refl), behind-reads xs g.0 _)
+command-reads (set_axiom xs) g = (refl, (tt, word_from (codes "axiom") refl), after-reads xs g.0 _)
 command-reads (put_production None l r) g = (refl, (tt, word_from (codes "production") refl), (refl, (tt, g.1), (refl, tt, rule-reads r g.2)))
 command-reads (put_production (Some t) l r) g = (refl, (tt, word_from (codes "production") refl), (refl, (tt, g.0), (refl, (tt, g.1), (refl, tt, rule-reads r g.2))))
 command-reads (drop_rule l) g = (refl, (tt, word_from (codes "drop") refl), (refl, (tt, g), tt))
-command-reads (set_ignored ns) g = (refl, (tt, word_from (codes "ignore") refl), behind-reads (map as_symbol ns) (names-symbols ns g) _)
+command-reads (set_ignored ns) g = (refl, (tt, word_from (codes "ignore") refl), after-reads (map as_symbol ns) (names-symbols ns g) _)
 command-reads (set_schedule []) g = elim g [ ]
 command-reads (set_schedule (w ∷ ws)) g = (refl, (tt, word_from (codes "schedule") refl), words-reads (w ∷ ws) g not_plain)
 command-reads (set_seed n) g = (refl, (tt, word_from (codes "seed") refl), (refl, g, tt))
@@ -114,9 +114,9 @@ command-reads print_system g = (refl, (tt, word_from (codes "show") refl), tt)
 command-reads quit g = (refl, (tt, word_from (codes "quit") refl), tt)
 command-reads (set_version n) g = (refl, (tt, word_from (codes "version") refl), (refl, g, tt))
 command-reads (set_own to_ignore t ns) g =
-    (refl, (tt, word_from (codes "ignoring") refl), (refl, (tt, g.0), (refl, tt, behind-reads (map as_symbol ns) (names-symbols ns g.1) _)))
+    (refl, (tt, word_from (codes "ignoring") refl), (refl, (tt, g.0), (refl, tt, after-reads (map as_symbol ns) (names-symbols ns g.1) _)))
 command-reads (set_own to_consider t ns) g =
-    (refl, (tt, word_from (codes "consider") refl), (refl, (tt, g.0), (refl, tt, behind-reads (map as_symbol ns) (names-symbols ns g.1) _)))
+    (refl, (tt, word_from (codes "consider") refl), (refl, (tt, g.0), (refl, tt, after-reads (map as_symbol ns) (names-symbols ns g.1) _)))
 command-reads (drop_own t) g = (refl, (tt, word_from (codes "common") refl), (refl, (tt, g), tt))
 command-reads (set_numbering n) g = (refl, (tt, word_from (codes "lineage") refl), (refl, (tt, numbering-text n), tt))
 

@@ -8,7 +8,7 @@ use Rattle.lsys_syntax.specs.Expressions.{Expr}
 use Rattle.lsys_syntax.specs.Rules.{Rule}
 use Rattle.lsys_syntax.specs.RuleMachine as R
 use Rattle.lsys_syntax.specs.RuleMachine.{Form, production, homomorphism, reversed, open_in, where_closed}
-use Rattle.lsys_syntax.specs.Commands.{list_word, Command, set_axiom, put_production, set_schedule, put_homomorphism, as_symbol, string_behind, words_pieces, HasNoCut, IsHomomorphism, IsTable}
+use Rattle.lsys_syntax.specs.Commands.{list_word, Command, set_axiom, put_production, set_schedule, put_homomorphism, as_symbol, string_after, words_pieces, HasNoCut, IsHomomorphism, IsTable}
 use Rattle.lsys_syntax.specs.LineMachine.{AxiomState, Symbols, NumberDue, MinusRead, NumberRead, State, Fresh, InAxiom, ProductionDue, OneWord, TwoWords, InProduction, LabelDue, LabelRead, InHomomorphism, DropDue, of_ignored, of_own, InNames, ScheduleDue, InSchedule, SeedDue, DepthDue, LatticeDue, StringRead, VersionDue, TableDue, TableRead, CommonDue, NumberingDue, Whole, Stop, line_step, finish, line_depth, Verdict, sentence, stops, too_deep, sentence_or_stop, is_stop, nesting_bound, verdict_from, verdict}
 use Rattle.lsys_syntax.specs.Sentences.{IsToken, AreTokens, IsSpelled}
 use Rattle.lsys_syntax.proofs.ExprLeads.{Shallow}
@@ -22,9 +22,9 @@ abbrev pub OnCommand : ℕ → List Kind → Option Command → Type 0
 OnCommand b ts None = Unit {0}
 OnCommand b ts (Some c) = IsSpelled b ts c
 
-behind-string : (xs : List (Symbol Signed)) → kinds_of (string_behind xs) ≡ spelled_string signed_pieces xs
-behind-string [] = refl
-behind-string (x ∷ xs) = refl
+after-string : (xs : List (Symbol Signed)) → kinds_of (string_after xs) ≡ spelled_string signed_pieces xs
+after-string [] = refl
+after-string (x ∷ xs) = refl
 
 kinds-gap : (a b : Bool) (ps : List Piece) → kinds_of (gap a b ++ ps) ≡ kinds_of ps
 kinds-gap true true ps = refl
@@ -35,9 +35,9 @@ names-kinds : (ns : List ModuleName) → kinds_of (string_pieces signed_pieces (
 names-kinds [] = refl
 names-kinds (n ∷ ns) = ap (λ ks. name_kind n ∷ ks) (kinds-gap (ends_in_name (as_symbol n)) (begins_with_letter (map as_symbol ns)) (string_pieces signed_pieces (map as_symbol ns)) ∙ names-kinds ns)
 
-behind-names : (ns : List ModuleName) → kinds_of (string_behind (map as_symbol ns)) ≡ map name_kind ns
-behind-names [] = refl
-behind-names (n ∷ ns) = names-kinds (n ∷ ns)
+after-names : (ns : List ModuleName) → kinds_of (string_after (map as_symbol ns)) ≡ map name_kind ns
+after-names [] = refl
+after-names (n ∷ ns) = names-kinds (n ∷ ns)
 
 words-kinds : (ws : List (List ℕ)) → kinds_of (words_pieces ws) ≡ map word ws
 words-kinds [] = refl
@@ -49,7 +49,7 @@ closed-axiom b ts (suc n) c f = tt
 
 pub axiom-spelled : (b : ℕ) (r : List (Symbol Signed)) (ts : List Kind) → AxiomHolds (Symbols r) ts → open_in r ≡ 0 → IsSpelled b ts (set_axiom (reversed r))
 axiom-spelled b r ts h e =
-    (ap (λ ks. axiom_front ++ ks) (behind-string (reversed r)) ∙ h.0, (each-reversed (IsSymbol IsSigned) r h.1.0, nests-closed r h.1.1 e), omega arith)
+    (ap (λ ks. axiom_front ++ ks) (after-string (reversed r)) ∙ h.0, (each-reversed (IsSymbol IsSigned) r h.1.0, nests-closed r h.1.1 e), omega arith)
 
 axiom-finish : (b : ℕ) (a : AxiomState) (ts : List Kind) → AxiomHolds a ts → OnCommand b ts (finish (InAxiom a))
 axiom-finish b (Symbols r) ts h = closed-axiom b ts (open_in r) (set_axiom (reversed r)) (axiom-spelled b r ts h)
@@ -107,9 +107,9 @@ finish-spelled b LabelDue ts h = tt
 finish-spelled b (LabelRead l) ts h = tt
 finish-spelled b (InHomomorphism l s) ts h = homomorphism-command b l h.0 ts (R.whole s) (whole-spelled homomorphism b s h.0 h.2) h.1 h.3
 finish-spelled b DropDue ts h = tt
-finish-spelled b (InNames of_ignored r) ts h = (ap (λ ks. word (codes "ignore") ∷ ks) (behind-names (reversed r)) ∙ h.0, each-reversed IsModuleName r h.2, omega arith)
+finish-spelled b (InNames of_ignored r) ts h = (ap (λ ks. word (codes "ignore") ∷ ks) (after-names (reversed r)) ∙ h.0, each-reversed IsModuleName r h.2, omega arith)
 finish-spelled b (InNames (of_own k t) r) ts h =
-    (ap (λ ks. word (list_word k) ∷ word t ∷ Colon ∷ ks) (behind-names (reversed r)) ∙ h.0, (h.1, each-reversed IsModuleName r h.2), omega arith)
+    (ap (λ ks. word (list_word k) ∷ word t ∷ Colon ∷ ks) (after-names (reversed r)) ∙ h.0, (h.1, each-reversed IsModuleName r h.2), omega arith)
 finish-spelled b ScheduleDue ts h = tt
 finish-spelled b (InSchedule []) ts h = elim h [ ]
 finish-spelled b (InSchedule (w ∷ r)) ts h = schedule-spelled b (reversed (w ∷ r)) w r ts refl h.0 h.1

@@ -107,15 +107,15 @@ patterns-balanced (Pop ∷ xs) h = elim h.0 [ ]
 patterns-balanced (Cut ∷ xs) h = elim h.0 [ ]
 
 -- contexts
-abbrev part_behind : List (Symbol NameText) → Part
-part_behind [] = at_first
-part_behind (x ∷ xs) = at_predecessor (x ∷ xs)
+abbrev part_after : List (Symbol NameText) → Part
+part_after [] = at_first
+part_after (x ∷ xs) = at_predecessor (x ∷ xs)
 
 left-ends : (xs r : List (Symbol NameText)) (x : Symbol NameText) → rule_step production (Formals at_first (reversed_onto xs (x ∷ r))) Less ≡ Formals (at_predecessor (reversed (reversed_onto xs (x ∷ r)))) []
 left-ends [] r x = refl
 left-ends (y ∷ ys) r x = left-ends ys (x ∷ r) y
 
-left-leads : (m : Form) (b : ℕ) (xs : List (Symbol NameText)) → Absent m xs → EachOf IsPattern xs → Lead m b start (left_pieces xs) (Formals (part_behind xs) [])
+left-leads : (m : Form) (b : ℕ) (xs : List (Symbol NameText)) → Absent m xs → EachOf IsPattern xs → Lead m b start (left_pieces xs) (Formals (part_after xs) [])
 left-leads production b [] o h = refl
 left-leads homomorphism b [] o h = refl
 left-leads homomorphism b (x ∷ xs) o h = elim o [ ]
@@ -127,19 +127,19 @@ left-leads production b (x ∷ xs) o h =
     (leads-token (rule_step production) (Shallow b) Less (blank ∷ []) (Formals at_first read) (Formals (at_predecessor (x ∷ xs)) []) (Formals (at_predecessor (x ∷ xs)) []) e tt refl)
 
 -- after the right context, which there may be
-abbrev right_behind : List (Symbol NameText) → ModuleName → List NameText → List (Symbol NameText) → RuleState
-right_behind l n fs [] = Formals (part_behind l) (Module n fs ∷ [])
-right_behind l n fs (x ∷ xs) = Formals (at_right l n fs) (reversed_onto (x ∷ xs) [])
+abbrev right_after : List (Symbol NameText) → ModuleName → List NameText → List (Symbol NameText) → RuleState
+right_after l n fs [] = Formals (part_after l) (Module n fs ∷ [])
+right_after l n fs (x ∷ xs) = Formals (at_right l n fs) (reversed_onto (x ∷ xs) [])
 
-right-begins : (l : List (Symbol NameText)) (n : ModuleName) (fs : List NameText) → rule_step production (Formals (part_behind l) (Module n fs ∷ [])) Greater ≡ Formals (at_right l n fs) []
+right-begins : (l : List (Symbol NameText)) (n : ModuleName) (fs : List NameText) → rule_step production (Formals (part_after l) (Module n fs ∷ [])) Greater ≡ Formals (at_right l n fs) []
 right-begins [] n fs = refl
 right-begins (x ∷ xs) n fs = refl
 
-right-leads : (m : Form) (b : ℕ) (l : List (Symbol NameText)) (n : ModuleName) (fs : List NameText) (xs : List (Symbol NameText)) → Absent m xs → EachOf IsItem xs → balanced 0 xs ≡ true → Lead m b (Formals (part_behind l) (Module n fs ∷ [])) (right_pieces xs) (right_behind l n fs xs)
+right-leads : (m : Form) (b : ℕ) (l : List (Symbol NameText)) (n : ModuleName) (fs : List NameText) (xs : List (Symbol NameText)) → Absent m xs → EachOf IsItem xs → balanced 0 xs ≡ true → Lead m b (Formals (part_after l) (Module n fs ∷ [])) (right_pieces xs) (right_after l n fs xs)
 right-leads m b l n fs [] o h e = refl
 right-leads homomorphism b l n fs (x ∷ xs) o h e = elim o [ ]
 right-leads production b l n fs (x ∷ xs) o h e =
-    leads-token (rule_step production) (Shallow b) Greater (blank ∷ note right_begins ∷ string_pieces formal_pieces (x ∷ xs)) (Formals (part_behind l) (Module n fs ∷ [])) (Formals (at_right l n fs) []) (Formals (at_right l n fs) (reversed_onto (x ∷ xs) []))
+    leads-token (rule_step production) (Shallow b) Greater (blank ∷ note right_begins ∷ string_pieces formal_pieces (x ∷ xs)) (Formals (part_after l) (Module n fs ∷ [])) (Formals (at_right l n fs) []) (Formals (at_right l n fs) (reversed_onto (x ∷ xs) []))
     (right-begins l n fs) tt (string-formals b (x ∷ xs) (at_right l n fs) h e)
 
 -- the head that stands after the contexts
@@ -152,10 +152,10 @@ right-head : (l : List (Symbol NameText)) (n : ModuleName) (fs : List NameText) 
 right-head l n fs [] r x o = ap (λ k. where_closed k (Some (record { left = l; name = n; formals = fs; right = reversed (x ∷ r) }))) o
 right-head l n fs (y ∷ ys) r x o = right-head l n fs ys (x ∷ r) y o
 
-head-behind : (l : List (Symbol NameText)) (n : ModuleName) (fs : List NameText) (xs : List (Symbol NameText)) → balanced 0 xs ≡ true → head_in (right_behind l n fs xs) ≡ Some (record { left = l; name = n; formals = fs; right = xs })
-head-behind [] n fs [] e = refl
-head-behind (y ∷ ys) n fs [] e = refl
-head-behind l n fs (x ∷ xs) e = right-head l n fs xs [] x (none_open (x ∷ xs) [] e) ∙ ap (λ rs. Some (record { left = l; name = n; formals = fs; right = rs })) (twice (x ∷ xs))
+head-after : (l : List (Symbol NameText)) (n : ModuleName) (fs : List NameText) (xs : List (Symbol NameText)) → balanced 0 xs ≡ true → head_in (right_after l n fs xs) ≡ Some (record { left = l; name = n; formals = fs; right = xs })
+head-after [] n fs [] e = refl
+head-after (y ∷ ys) n fs [] e = refl
+head-after l n fs (x ∷ xs) e = right-head l n fs xs [] x (none_open (x ∷ xs) [] e) ∙ ap (λ rs. Some (record { left = l; name = n; formals = fs; right = rs })) (twice (x ∷ xs))
 
 module _ (m : Form) (b : ℕ) where
   -- an expression, and after it a token that ends it
@@ -193,16 +193,16 @@ tail-leads production b p r h (Some c) (Some w) ps u e gc gw o nc nw l =
     (expr-to production b c (as_condition h) At rest (InExpr (as_weight h (Some c)) expr_start) u gc nc refl refl refl (at-start production b (as_weight h (Some c)))
     (expr-to production b w (as_weight h (Some c)) Arrow ps (Successor (record { head = h; condition = Some c; weight = Some w }) []) u gw nw refl refl refl tt l))
 
-tail-behind : (m : Form) (b : ℕ) (s : RuleState) (h : Head) (c w : Option Expr) (ps : List Piece) (u : RuleState) → head_in s ≡ Some h
+tail-after : (m : Form) (b : ℕ) (s : RuleState) (h : Head) (c w : Option Expr) (ps : List Piece) (u : RuleState) → head_in s ≡ Some h
     → IsOption c → IsOption w → NoWeight m w → option_nesting c ≤ b → option_nesting w ≤ b
     → Lead m b (Successor (record { head = h; condition = c; weight = w }) []) ps u
     → Lead m b s (option_pieces Colon c ++ (option_pieces At w ++ blank ∷ token Arrow ∷ ps)) u
-tail-behind m b (Formals p r) h c w ps u e gc gw o nc nw l = tail-leads m b p r h c w ps u e gc gw o nc nw l
-tail-behind m b (FormalDue p r n fs) h c w ps u e gc gw o nc nw l = cc
-tail-behind m b (FormalRead p r n fs) h c w ps u e gc gw o nc nw l = cc
-tail-behind m b (InExpr spot s) h c w ps u e gc gw o nc nw l = cc
-tail-behind m b (Successor d r) h c w ps u e gc gw o nc nw l = cc
-tail-behind m b Stop h c w ps u e gc gw o nc nw l = cc
+tail-after m b (Formals p r) h c w ps u e gc gw o nc nw l = tail-leads m b p r h c w ps u e gc gw o nc nw l
+tail-after m b (FormalDue p r n fs) h c w ps u e gc gw o nc nw l = cc
+tail-after m b (FormalRead p r n fs) h c w ps u e gc gw o nc nw l = cc
+tail-after m b (InExpr spot s) h c w ps u e gc gw o nc nw l = cc
+tail-after m b (Successor d r) h c w ps u e gc gw o nc nw l = cc
+tail-after m b Stop h c w ps u e gc gw o nc nw l = cc
 
 -- successors
 module _ (m : Form) (b : ℕ) (d : Premise) where
@@ -274,12 +274,12 @@ rule-leads m b r g o h =
     let d : Premise = record { head = record { left = r.left; name = r.name; formals = r.formals; right = r.right }; condition = r.condition; weight = r.weight } in
     let last : List Piece = option_pieces Colon r.condition ++ (option_pieces At r.weight ++ blank ∷ token Arrow ∷ successor_pieces r.successor) in
     let first : List Piece = predecessor_pieces r.name r.formals in
-    let one : RuleState = Formals (part_behind r.left) (Module r.name r.formals ∷ []) in
-    let two : RuleState = right_behind r.left r.name r.formals r.right in
-    leads-append (rule_step m) (Shallow b) (left_pieces r.left) (first ++ (right_pieces r.right ++ last)) start (Formals (part_behind r.left) []) (read_rule r) (left-leads m b r.left o.left g.patterns)
-    (leads-append (rule_step m) (Shallow b) first (right_pieces r.right ++ last) (Formals (part_behind r.left) []) one (read_rule r) (formals-module m b (part_behind r.left) [] r.name r.formals refl)
+    let one : RuleState = Formals (part_after r.left) (Module r.name r.formals ∷ []) in
+    let two : RuleState = right_after r.left r.name r.formals r.right in
+    leads-append (rule_step m) (Shallow b) (left_pieces r.left) (first ++ (right_pieces r.right ++ last)) start (Formals (part_after r.left) []) (read_rule r) (left-leads m b r.left o.left g.patterns)
+    (leads-append (rule_step m) (Shallow b) first (right_pieces r.right ++ last) (Formals (part_after r.left) []) one (read_rule r) (formals-module m b (part_after r.left) [] r.name r.formals refl)
     (leads-append (rule_step m) (Shallow b) (right_pieces r.right) last one two (read_rule r) (right-leads m b r.left r.name r.formals r.right o.right g.items g.right_balanced)
-    (tail-behind m b two d.head r.condition r.weight (successor_pieces r.successor) (read_rule r) (head-behind r.left r.name r.formals r.right g.right_balanced) g.condition g.weight o.weight (omega (arith, h)) (omega (arith, h))
+    (tail-after m b two d.head r.condition r.weight (successor_pieces r.successor) (read_rule r) (head-after r.left r.name r.formals r.right g.right_balanced) g.condition g.weight o.weight (omega (arith, h)) (omega (arith, h))
     (successor-leads m b d r.successor g.successor o.cuts (omega (arith, h)) g.successor_balanced))))
 
 pub read_rule-whole : (r : Rule) → IsRule r → whole (read_rule r) ≡ Some r

@@ -6,7 +6,7 @@ use Rattle.lsys_syntax.specs.Limits.{nesting_bound}
 use Rattle.lsys_syntax.specs.Tokens.{Kind, Equal, Unequal, AtMost, AtLeast, Less, Greater}
 use Rattle.lsys_syntax.specs.Expressions.{Expr}
 use Rattle.lsys_syntax.specs.ExpressionMachine as E
-use Rattle.lsys_syntax.specs.ExpressionPlaces.{Extent, at_end, extent_behind, extent_from, extent}
+use Rattle.lsys_syntax.specs.ExpressionPlaces.{Extent, at_end, extent_after, extent_from, extent}
 use Rattle.lsys_syntax.specs.ExpressionPlaces as X
 use Rattle.lsys_syntax.specs.Nesting as N
 use Rattle.lsys_syntax.specs.Rules.{Rule}
@@ -124,16 +124,16 @@ IsInside s = Unit {0}
 
 module _ (m : Form) (spot : Spot) (b : ℕ) (all : List Kind) where
   -- the end of an expression after which no rule goes on
-  stops-behind : (n : ℕ) (x : E.ExpressionState) → ((e : Expr) → x ≡ E.Done e → point_from m (b + n) (after_expr spot e) (drop n all) ≡ stops (b + n)) → stops (b + n) ≡ by_extent m spot b all (at_end n x)
-  stops-behind n (E.Done e) h = sym (h e refl)
-  stops-behind n (E.Due k) h = refl
-  stops-behind n (E.Have a k) h = refl
-  stops-behind n (E.HalfAnd a k) h = refl
-  stops-behind n (E.HalfOr a k) h = refl
-  stops-behind n E.Stop h = refl
+  stops-after : (n : ℕ) (x : E.ExpressionState) → ((e : Expr) → x ≡ E.Done e → point_from m (b + n) (after_expr spot e) (drop n all) ≡ stops (b + n)) → stops (b + n) ≡ by_extent m spot b all (at_end n x)
+  stops-after n (E.Done e) h = sym (h e refl)
+  stops-after n (E.Due k) h = refl
+  stops-after n (E.Have a k) h = refl
+  stops-after n (E.HalfAnd a k) h = refl
+  stops-after n (E.HalfOr a k) h = refl
+  stops-after n E.Stop h = refl
 
   inside-end : (s : E.ExpressionState) (n : ℕ) → drop n all ≡ [] → stops (b + n) ≡ by_extent m spot b all (at_end n (E.end_step s))
-  inside-end s n d = stops-behind n (E.end_step s) (λ e q. ap (point_from m (b + n) (after_expr spot e)) d)
+  inside-end s n d = stops-after n (E.end_step s) (λ e q. ap (point_from m (b + n) (after_expr spot e)) d)
 
   -- No rule goes on with a comparison after a whole expression.
   comparison-stops : (k : Kind) (e : Expr) → IsComparison k → done_step m k spot e ≡ Stop
@@ -147,13 +147,13 @@ module _ (m : Form) (spot : Spot) (b : ℕ) (all : List Kind) where
 
   inside-stop : (s : E.ExpressionState) (k : Kind) (ks : List Kind) (n : ℕ) → E.step s (small k) ≡ E.Stop → drop n all ≡ k ∷ ks → stops (b + n) ≡ by_extent m spot b all (at_end n (E.end_step s))
   inside-stop s k ks n stop d =
-      stops-behind n (E.end_step s)
+      stops-after n (E.end_step s)
       (λ e q. ap (point_from m (b + n) (after_expr spot e)) d ∙ ap (λ t. taken (b + n) t (rule_from m (b + n + 1) t ks)) (comparison-stops k e (stop-compares s k e stop q)))
 
   -- one token more
   inside-step : (s x : E.ExpressionState) (k : Kind) (ks : List Kind) (n : ℕ) (rest : Extent) → E.step s (small k) ≡ x → drop n all ≡ k ∷ ks
       → (IsInside x → rule_from m (b + n + 1) (InExpr spot x) ks ≡ by_extent m spot b all rest)
-      → taken (b + n) (within m spot k x) (rule_from m (b + n + 1) (within m spot k x) ks) ≡ by_extent m spot b all (extent_behind n s x rest)
+      → taken (b + n) (within m spot k x) (rule_from m (b + n + 1) (within m spot k x) ks) ≡ by_extent m spot b all (extent_after n s x rest)
   inside-step s (E.Done e) k ks n rest q d h = sym (ap (point_from m (b + n) (after_expr spot e)) d)
   inside-step s E.Stop k ks n rest q d h = inside-stop s k ks n q d
   inside-step s (E.Due j) k ks n rest q d h = by (nat_lt nesting_bound (N.depth (E.Due j)))

@@ -45,17 +45,17 @@ string-within b (Push ∷ xs) ys h k = string-within b xs (Push ∷ ys) h k
 string-within b (Pop ∷ xs) ys h k = string-within b xs (Pop ∷ ys) h k
 string-within b (Cut ∷ xs) ys h k = string-within b xs (Cut ∷ ys) h k
 
-behind-one : (h es : List Kind) (c k : Kind) → h ++ (c ∷ es ++ k ∷ []) ≡ ((h ++ c ∷ []) ++ es) ++ k ∷ []
-behind-one h es c k = simp append_assoc refl
+after-one : (h es : List Kind) (c k : Kind) → h ++ (c ∷ es ++ k ∷ []) ≡ ((h ++ c ∷ []) ++ es) ++ k ∷ []
+after-one h es c k = simp append_assoc refl
 
-behind-two : (h o es : List Kind) (c k : Kind) → h ++ (o ++ (c ∷ es ++ k ∷ [])) ≡ ((h ++ (o ++ c ∷ [])) ++ es) ++ k ∷ []
-behind-two h o es c k = simp append_assoc refl
+after-two : (h o es : List Kind) (c k : Kind) → h ++ (o ++ (c ∷ es ++ k ∷ [])) ≡ ((h ++ (o ++ c ∷ [])) ++ es) ++ k ∷ []
+after-two h o es c k = simp append_assoc refl
 
-behind-params : (h t ps es : List Kind) (n : Kind) → h ++ (t ++ n ∷ (ps ++ es)) ≡ (h ++ (t ++ n ∷ ps)) ++ es
-behind-params h t ps es n = simp append_assoc refl
+after-params : (h t ps es : List Kind) (n : Kind) → h ++ (t ++ n ∷ (ps ++ es)) ≡ (h ++ (t ++ n ∷ ps)) ++ es
+after-params h t ps es n = simp append_assoc refl
 
-behind-body : (l f r c w s : List Kind) (k : Kind) → l ++ (f ++ (r ++ (c ++ (w ++ k ∷ s)))) ≡ ((l ++ (f ++ r)) ++ (c ++ (w ++ k ∷ []))) ++ s
-behind-body l f r c w s k = simp append_assoc refl
+after-body : (l f r c w s : List Kind) (k : Kind) → l ++ (f ++ (r ++ (c ++ (w ++ k ∷ s)))) ≡ ((l ++ (f ++ r)) ++ (c ++ (w ++ k ∷ []))) ++ s
+after-body l f r c w s k = simp append_assoc refl
 
 -- An expression e was read, and the token k ends it.
 module _ (b : ℕ) (e : Expr) (ts : List Kind) (i : IsExpr e) (n : N.expr_nesting e ≤ b) where
@@ -66,19 +66,19 @@ module _ (b : ℕ) (e : Expr) (ts : List Kind) (i : IsExpr e) (n : N.expr_nestin
   weight-body m h c o g = record { head = g.head; condition = g.condition; near_condition = g.near_condition; weight = i; near_weight = n; no_weight = no_weight m e o }
 
   condition-at : (h : Head) → spot_kinds (as_condition h) ++ expr_kinds e ≡ ts → spot_kinds (as_weight h (Some e)) ≡ ts ++ At ∷ []
-  condition-at h q = ap (λ ks. head_kinds h ++ (Colon ∷ ks ++ At ∷ [])) (pieces-kinds e) ∙ behind-one (head_kinds h) (expr_kinds e) Colon At ∙ ap (λ ks. ks ++ At ∷ []) q
+  condition-at h q = ap (λ ks. head_kinds h ++ (Colon ∷ ks ++ At ∷ [])) (pieces-kinds e) ∙ after-one (head_kinds h) (expr_kinds e) Colon At ∙ ap (λ ks. ks ++ At ∷ []) q
 
   condition-arrow : (h : Head) → spot_kinds (as_condition h) ++ expr_kinds e ≡ ts → body_kinds (record { head = h; condition = Some e; weight = None }) ≡ ts ++ Arrow ∷ []
-  condition-arrow h q = ap (λ ks. head_kinds h ++ (Colon ∷ ks ++ Arrow ∷ [])) (pieces-kinds e) ∙ behind-one (head_kinds h) (expr_kinds e) Colon Arrow ∙ ap (λ ks. ks ++ Arrow ∷ []) q
+  condition-arrow h q = ap (λ ks. head_kinds h ++ (Colon ∷ ks ++ Arrow ∷ [])) (pieces-kinds e) ∙ after-one (head_kinds h) (expr_kinds e) Colon Arrow ∙ ap (λ ks. ks ++ Arrow ∷ []) q
 
   weight-arrow : (h : Head) (c : Option Expr) → spot_kinds (as_weight h c) ++ expr_kinds e ≡ ts → body_kinds (record { head = h; condition = c; weight = Some e }) ≡ ts ++ Arrow ∷ []
   weight-arrow h c q =
-      ap (λ ks. head_kinds h ++ (kinds_of (option_pieces Colon c) ++ (At ∷ ks ++ Arrow ∷ []))) (pieces-kinds e) ∙ behind-two (head_kinds h) (kinds_of (option_pieces Colon c)) (expr_kinds e) At Arrow ∙ ap (λ ks. ks ++ Arrow ∷ []) q
+      ap (λ ks. head_kinds h ++ (kinds_of (option_pieces Colon c) ++ (At ∷ ks ++ Arrow ∷ []))) (pieces-kinds e) ∙ after-two (head_kinds h) (kinds_of (option_pieces Colon c)) (expr_kinds e) At Arrow ∙ ap (λ ks. ks ++ Arrow ∷ []) q
 
   param-kinds : (d : Premise) (r : List (Symbol Expr)) (k : ModuleName) (es : List Expr) → spot_kinds (as_param d r k es) ++ expr_kinds e ≡ ts
       → body_kinds d ++ (taken expr_pieces r ++ name_kind k ∷ (params_before expr_pieces es ++ kinds_of (expr_pieces e))) ≡ ts
   param-kinds d r k es q = ap (λ ks. body_kinds d ++ (taken expr_pieces r ++ name_kind k ∷ (params_before expr_pieces es ++ ks))) (pieces-kinds e)
-      ∙ behind-params (body_kinds d) (taken expr_pieces r) (params_before expr_pieces es) (expr_kinds e) (name_kind k) ∙ q
+      ∙ after-params (body_kinds d) (taken expr_pieces r) (params_before expr_pieces es) (expr_kinds e) (name_kind k) ∙ q
 
   param-closed : (m : Form) (r : List (Symbol Expr)) (k : ModuleName) (es : List Expr) → GoodSuccessor m b (Module k [] ∷ r) → EachOf IsExpr es → params_nesting es ≤ b → GoodSuccessor m b (Module k (reversed (e ∷ es)) ∷ r)
   param-closed m r k es g h w =
@@ -191,7 +191,7 @@ rule-kinds d xs =
     ∙ ap (λ ks. kinds_of l ++ (kinds_of f ++ (kinds_of r ++ ks))) (kinds-append c (w ++ last))
     ∙ ap (λ ks. kinds_of l ++ (kinds_of f ++ (kinds_of r ++ (kinds_of c ++ ks)))) (kinds-append w last)
     ∙ ap (λ ks. kinds_of l ++ (kinds_of f ++ (kinds_of r ++ (kinds_of c ++ (kinds_of w ++ Arrow ∷ ks))))) (successor-kinds xs)
-    ∙ behind-body (kinds_of l) (kinds_of f) (kinds_of r) (kinds_of c) (kinds_of w) (spelled_string expr_pieces xs) Arrow
+    ∙ after-body (kinds_of l) (kinds_of f) (kinds_of r) (kinds_of c) (kinds_of w) (spelled_string expr_pieces xs) Arrow
 
 closed-rule : (m : Form) (b : ℕ) (ts : List Kind) (n : ℕ) (r : Rule) → (n ≡ 0 → IsSpelled m b ts r) → OnRule m b ts (where_closed n (Some r))
 closed-rule m b ts zero r f = f refl

@@ -3,7 +3,7 @@ use Rattle.std.proofs.Common.{◌≡◌, ℕ, Bool, true, false, ◌≤◌, ◌<
 use Rattle.lsys_syntax.specs.Tokens.{Kind, Number, BigNumber, Equal, Unequal, AtMost, AtLeast, RightParen, Plus, Minus, Times, Slash, Percent, Ampersand, Bar, Caret, Less, Greater}
 use Rattle.lsys_syntax.specs.Expressions.{multiply, divide, remainder, add, subtract, RelOp, equal, unequal, less, at_most, greater, at_least, Expr, Unary, negated, inverted, only_atom, raised, Atom, expr_kinds, IsExpr}
 use Rattle.lsys_syntax.specs.ExpressionMachine.{InUnary, negating, inverting, raising, in_term, InTerm, Around, no_parens, in_parens, ExpressionState, Due, Have, HalfAnd, HalfOr, Done, Stop, closing, other, half_or, ends_expr, half_and, ends_and, comparing, rel_step, ends_rel, more_sum, ends_sum, AfterUnary, more_term, ends_term, expr_step, what_follows, closed, after_unary, after_operand, after_atom, start_expr, step, run, end_step}
-use Rattle.lsys_syntax.specs.ExpressionPlaces.{CantGoOn, Extent, ends, too_deep, at_end, extent_behind, extent_from, extent}
+use Rattle.lsys_syntax.specs.ExpressionPlaces.{CantGoOn, Extent, ends, too_deep, at_end, extent_after, extent_from, extent}
 use Rattle.lsys_syntax.specs.Nesting.{expr_nesting, depth, StaysWithin}
 use Rattle.lsys_syntax.specs.RuleMachine.{small}
 use Rattle.lsys_syntax.proofs.Complete.{leave_expr, Has, has-expr, run-whole, end-whole, other-ends, paren-ends}
@@ -20,23 +20,23 @@ runs s ks = run s (map small ks)
 abbrev pub Goes : ℕ → ExpressionState → List Kind → Type 0
 Goes b s ks = StaysWithin b s (map small ks) × IsGoing (runs s ks)
 
-pub behind-going : (n : ℕ) (s t : ExpressionState) (x : Extent) → IsGoing t → extent_behind n s t x ≡ (if nat_lt 32 (depth t) then too_deep n else x)
-behind-going n s (Due k) x h = refl
-behind-going n s (Have a k) x h = refl
-behind-going n s (HalfAnd a k) x h = refl
-behind-going n s (HalfOr e k) x h = refl
-behind-going n s (Done e) x h = elim h [ ]
-behind-going n s Stop x h = elim h [ ]
+pub after-going : (n : ℕ) (s t : ExpressionState) (x : Extent) → IsGoing t → extent_after n s t x ≡ (if nat_lt 32 (depth t) then too_deep n else x)
+after-going n s (Due k) x h = refl
+after-going n s (Have a k) x h = refl
+after-going n s (HalfAnd a k) x h = refl
+after-going n s (HalfOr e k) x h = refl
+after-going n s (Done e) x h = elim h [ ]
+after-going n s Stop x h = elim h [ ]
 
-pub within-rest : (n : ℕ) (x : Extent) (s t : ExpressionState) → depth t ≤ 32 → IsGoing t → extent_behind n s t x ≡ x
-within-rest n x s t d g = behind-going n s t x g ∙ ap (λ c. if c then too_deep n else x) (shallow (depth t) (nat_lt 32 (depth t)) refl d)
+pub within-rest : (n : ℕ) (x : Extent) (s t : ExpressionState) → depth t ≤ 32 → IsGoing t → extent_after n s t x ≡ x
+within-rest n x s t d g = after-going n s t x g ∙ ap (λ c. if c then too_deep n else x) (shallow (depth t) (nat_lt 32 (depth t)) refl d)
   where
     shallow : (m : ℕ) (c : Bool) → nat_lt 32 m ≡ c → m ≤ 32 → c ≡ false
     shallow m false q h = refl
     shallow m true q h = let more : 32 < m = is_deep 32 m q in absurd (omega (arith, more, h))
 
-pub behind-deep : (n : ℕ) (x : Extent) (s t : ExpressionState) → 32 < depth t → IsGoing t → extent_behind n s t x ≡ too_deep n
-behind-deep n x s t d g = behind-going n s t x g ∙ ap (λ c. if c then too_deep n else x) (lt-ltb 32 (depth t) d)
+pub after-deep : (n : ℕ) (x : Extent) (s t : ExpressionState) → 32 < depth t → IsGoing t → extent_after n s t x ≡ too_deep n
+after-deep n x s t d g = after-going n s t x g ∙ ap (λ c. if c then too_deep n else x) (lt-ltb 32 (depth t) d)
 
 -- Tokens that are taken are passed over.
 through : (ks rest : List Kind) (n m : ℕ) (s : ExpressionState) → Goes 32 s ks → m ≡ n + length ks → extent_from n s (ks ++ rest) ≡ extent_from m (runs s ks) rest
@@ -54,7 +54,7 @@ small-follows (Number n) h = number-follows n (nat_lt n (2 ^ 63))
 small-follows k h = h
 
 ends-here : (n : ℕ) (e : Expr) (s : ExpressionState) (k : Kind) (ks : List Kind) → step s (small k) ≡ Done e → extent_from n s (k ∷ ks) ≡ ends n e
-ends-here n e s k ks q = ap (λ t. extent_behind n s t (extent_from (n + 1) (step s (small k)) ks)) q
+ends-here n e s k ks q = ap (λ t. extent_after n s t (extent_from (n + 1) (step s (small k)) ks)) q
 
 whole-ends : (e : Expr) (n : ℕ) (rest : List Kind) → CantGoOn rest → extent_from n (leave_expr e no_parens) rest ≡ ends n e
 whole-ends e n [] h = ap (at_end n) (end-whole e)

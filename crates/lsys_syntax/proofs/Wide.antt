@@ -59,8 +59,8 @@ not-wide c n (token k ∷ ps) h =
     neither (nat_lt c.most c.symbols || nat_lt most_params c.params) (wide c.symbols c.most c.params ps) two.0 (not-wide d (n + 1) ps u.1)
 
 -- what stands after, whatever the parameters of the last symbol are
-abbrev Behind : ℕ → ℕ → List Piece → Type 0
-Behind s m ps = (p : ℕ) × (wide s m p ps ≡ false)
+abbrev After : ℕ → ℕ → List Piece → Type 0
+After s m ps = (p : ℕ) × (wide s m p ps ≡ false)
 
 -- a token
 one-token : (k : Kind) (s m p : ℕ) (ps : List Piece) → wide s m p (token k ∷ ps) ≡ false → (s ≤ m) × (p ≤ most_params) × (wide s m p ps ≡ false)
@@ -85,7 +85,7 @@ expr-counts e s m p ps h =
     kinds-count (expr_kinds e) s m p (note expr_ends ∷ ps) (sym (ap (wide s m p) (append_assoc (map token (expr_kinds e)) (note expr_ends ∷ []) ps)) ∙ h)
 
 module _ {P : Type 0} (print : P → List Piece) (quiet : Counts-nothing print) where
-  few-more : (xs : List P) (s m p : ℕ) (ps : List Piece) → wide s m p (more_pieces print xs ++ token RightParen ∷ ps) ≡ false → (p + length xs ≤ most_params) × Behind s m ps
+  few-more : (xs : List P) (s m p : ℕ) (ps : List Piece) → wide s m p (more_pieces print xs ++ token RightParen ∷ ps) ≡ false → (p + length xs ≤ most_params) × After s m ps
   few-more [] s m p ps h = let t = one-token RightParen s m p ps h in (let i = t.1 in omega (arith, i), (p, t.2))
   few-more (x ∷ xs) s m p ps h =
       let t = one-token Comma s m p (note a_param ∷ ((print x ++ more_pieces print xs) ++ token RightParen ∷ ps)) h in
@@ -93,7 +93,7 @@ module _ {P : Type 0} (print : P → List Piece) (quiet : Counts-nothing print) 
       let rest = few-more xs s m (p + 1) ps again in
       (let i = rest.0 in omega (arith, i), rest.1)
 
-  few-params : (xs : List P) (s m : ℕ) (ps : List Piece) → wide s m 0 (params_pieces print xs ++ ps) ≡ false → (length xs ≤ most_params) × Behind s m ps
+  few-params : (xs : List P) (s m : ℕ) (ps : List Piece) → wide s m 0 (params_pieces print xs ++ ps) ≡ false → (length xs ≤ most_params) × After s m ps
   few-params [] s m ps h = (omega arith, (0, h))
   few-params (x ∷ xs) s m ps h =
       let t = one-token LeftParen s m 0 (note a_param ∷ ((print x ++ (more_pieces print xs ++ token RightParen ∷ [])) ++ ps)) h in
@@ -109,7 +109,7 @@ module _ {P : Type 0} (print : P → List Piece) (quiet : Counts-nothing print) 
   over-gap false false s m p ps = refl
 
   -- one symbol
-  few-symbol : (x : Symbol P) (s m p : ℕ) (ps : List Piece) → wide s m p (symbol_pieces print x ++ ps) ≡ false → (s + 1 ≤ m) × HaveFewParams (x ∷ []) × Behind (s + 1) m ps
+  few-symbol : (x : Symbol P) (s m p : ℕ) (ps : List Piece) → wide s m p (symbol_pieces print x ++ ps) ≡ false → (s + 1 ≤ m) × HaveFewParams (x ∷ []) × After (s + 1) m ps
   few-symbol (Module n xs) s m p ps h =
       let t = one-token (name_kind n) (s + 1) m 0 (params_pieces print xs ++ ps) h in
       let rest = few-params xs (s + 1) m ps t.2 in
@@ -124,7 +124,7 @@ module _ {P : Type 0} (print : P → List Piece) (quiet : Counts-nothing print) 
   few-and Pop xs h i = i
   few-and Cut xs h i = i
 
-  few-string : (xs : List (Symbol P)) (s m p : ℕ) (ps : List Piece) → s ≤ m → wide s m p (string_pieces print xs ++ ps) ≡ false → (s + length xs ≤ m) × HaveFewParams xs × Behind (s + length xs) m ps
+  few-string : (xs : List (Symbol P)) (s m p : ℕ) (ps : List Piece) → s ≤ m → wide s m p (string_pieces print xs ++ ps) ≡ false → (s + length xs ≤ m) × HaveFewParams xs × After (s + length xs) m ps
   few-string [] s m p ps le h = (omega (arith, le), tt, (p, subst (λ k. wide k m p ps ≡ false) (plus-none s) h))
     where
       plus-none : (n : ℕ) → n ≡ n + 0
@@ -136,7 +136,7 @@ module _ {P : Type 0} (print : P → List Piece) (quiet : Counts-nothing print) 
       let q = one.2.0 in
       let rest = few-string xs (s + 1) m q ps one.0 (sym (over-gap (ends_in_name x) (begins_with_letter xs) (s + 1) m q (string_pieces print xs ++ ps)) ∙ one.2.1) in
       let count : s + 1 + length xs ≡ s + length (x ∷ xs) = omega arith in
-      (subst (λ k. k ≤ m) count rest.0, few-and x xs one.1 rest.1, subst (λ k. Behind k m ps) count rest.2)
+      (subst (λ k. k ≤ m) count rest.0, few-and x xs one.1 rest.1, subst (λ k. After k m ps) count rest.2)
 
 few-option : (k : Kind) (o : Option Expr) (s m p : ℕ) (ps : List Piece) → wide s m p (option_pieces k o ++ ps) ≡ false → wide s m p ps ≡ false
 few-option k None s m p ps h = h

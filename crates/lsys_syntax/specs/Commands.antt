@@ -64,9 +64,9 @@ abbrev pub as_symbol : ModuleName → Symbol Signed
 as_symbol n = Module n []
 
 -- a blank and the string, where it isn't empty
-abbrev pub string_behind : List (Symbol Signed) → List Piece
-string_behind [] = []
-string_behind (x ∷ xs) = blank ∷ string_pieces signed_pieces (x ∷ xs)
+abbrev pub string_after : List (Symbol Signed) → List Piece
+string_after [] = []
+string_after (x ∷ xs) = blank ∷ string_pieces signed_pieces (x ∷ xs)
 
 abbrev pub words_pieces : List (List ℕ) → List Piece
 words_pieces [] = []
@@ -84,10 +84,10 @@ level_pieces None = []
 level_pieces (Some n) = blank ∷ token (Number n) ∷ []
 
 abbrev pub command_pieces : Command → List Piece
-command_pieces (set_axiom xs) = token (Word (codes "axiom")) ∷ string_behind xs
+command_pieces (set_axiom xs) = token (Word (codes "axiom")) ∷ string_after xs
 command_pieces (put_production t l r) = token (Word (codes "production")) ∷ blank ∷ rule_line (table_pieces t) l r
 command_pieces (drop_rule l) = token (Word (codes "drop")) ∷ blank ∷ token (Word l) ∷ []
-command_pieces (set_ignored ns) = token (Word (codes "ignore")) ∷ string_behind (map as_symbol ns)
+command_pieces (set_ignored ns) = token (Word (codes "ignore")) ∷ string_after (map as_symbol ns)
 command_pieces (set_schedule ws) = token (Word (codes "schedule")) ∷ words_pieces ws
 command_pieces (set_seed n) = token (Word (codes "seed")) ∷ blank ∷ token (Number n) ∷ []
 command_pieces (set_depth n) = token (Word (codes "depth")) ∷ blank ∷ token (Number n) ∷ []
@@ -99,7 +99,7 @@ command_pieces print_svg = token (Word (codes "svg")) ∷ []
 command_pieces print_system = token (Word (codes "show")) ∷ []
 command_pieces quit = token (Word (codes "quit")) ∷ []
 command_pieces (set_version n) = token (Word (codes "version")) ∷ blank ∷ token (Number n) ∷ []
-command_pieces (set_own k t ns) = token (Word (list_word k)) ∷ blank ∷ token (Word t) ∷ token Colon ∷ string_behind (map as_symbol ns)
+command_pieces (set_own k t ns) = token (Word (list_word k)) ∷ blank ∷ token (Word t) ∷ token Colon ∷ string_after (map as_symbol ns)
 command_pieces (drop_own t) = token (Word (codes "common")) ∷ blank ∷ token (Word t) ∷ []
 command_pieces (set_numbering g) = token (Word (codes "lineage")) ∷ blank ∷ token (Word (numbering_word g)) ∷ []
 

@@ -49,15 +49,15 @@ at_end n s = stops n
 
 -- After token number n, which makes t of the state s. An expression is done before a token that can't go on with it; a
 -- second comparison can't either, though the machine stops there.
-abbrev pub extent_behind : ℕ → ExpressionState → ExpressionState → Extent → Extent
-extent_behind n s (Done e) rest = ends n e
-extent_behind n s Stop rest = at_end n (end_step s)
-extent_behind n s t rest = if nat_lt nesting_bound (depth t) then too_deep n else rest
+abbrev pub extent_after : ℕ → ExpressionState → ExpressionState → Extent → Extent
+extent_after n s (Done e) rest = ends n e
+extent_after n s Stop rest = at_end n (end_step s)
+extent_after n s t rest = if nat_lt nesting_bound (depth t) then too_deep n else rest
 
 -- the tokens from number n on
 abbrev pub extent_from : ℕ → ExpressionState → List Kind → Extent
 extent_from n s [] = at_end n (end_step s)
-extent_from n s (k ∷ ks) = extent_behind n s (step s (small k)) (extent_from (n + 1) (step s (small k)) ks)
+extent_from n s (k ∷ ks) = extent_after n s (step s (small k)) (extent_from (n + 1) (step s (small k)) ks)
 
 -- how far the tokens, counted from 0, are an expression that is nested within the bound
 abbrev pub extent : List Kind → Extent

@@ -55,7 +55,7 @@ fn refused_edits() -> &'static [(&'static str, u32, u32)] {
 }
 
 /// The string is the one before the refusal, and its axiom asks nothing anew.
-fn lines_behind() -> &'static [HeldRow] {
+fn lines_after() -> &'static [HeldRow] {
     &[
         ("string", "A(3)A(3)A(3)A(3)A(3)\n", 36, 30),
         ("axiom A(9)A(9)A(9)A(9)A(9)", "ok 0/30\n", 36, 30),
@@ -92,7 +92,7 @@ pub(crate) fn are_refused<L: Ledger, V: Ledger, D: Derivation<L> + Drop + TellsH
     are_held(rt, alloc, session, edits_before(), asked, visited)?;
     for edit in refused_edits() {
         is_refused(rt, alloc, session, *edit, asked, visited)?;
-        are_held(rt, alloc, session, lines_behind(), asked, visited)?;
+        are_held(rt, alloc, session, lines_after(), asked, visited)?;
     }
     Ok(())
 }

@@ -111,7 +111,7 @@ fn an_edit_leaves_what_its_levels_and_questions_need(rt: HostRuntime) -> Result<
 }
 
 #[test]
-fn a_fault_leaves_nothing_behind(rt: HostRuntime) -> Result<(), Fail> {
+fn a_fault_leaves_nothing_after(rt: HostRuntime) -> Result<(), Fail> {
     is_tried(&rt, rt.alloc(), &Tried::Rows(a_fault()))
 }
 

@@ -25,7 +25,7 @@ pub(crate) fn letter(text: &[u8]) -> Module
 /// `ABC[DE][SG[HI[JK]L]MNO]`
 pub(crate) fn contexts_that_skip() -> [Symbol; 23]
     ensures balance { balanced 0 (string_of result) ≡ true }
-    ensures behind_first { balanced 0 (string_of (drop 1 result)) ≡ true }
+    ensures after_first { balanced 0 (string_of (drop 1 result)) ≡ true }
     ensures whole { has_cut result ≡ false }
 {
     [

@@ -396,12 +396,12 @@ fn a_second_branch_is_tried(rt: HostRuntime) {
 /// `A > C` where `B` is ignored: the 1,024th entry matches, and the 1,025th would.
 #[test]
 fn the_1025th_entry_is_too_far(rt: HostRuntime) {
-    is_read_behind(&rt, rt.alloc(), 1023, FOUND, 1 + 4 * 1024);
-    is_read_behind(&rt, rt.alloc(), 1024, TOO_FAR, 1 + 4 * 1025);
+    is_read_after(&rt, rt.alloc(), 1023, FOUND, 1 + 4 * 1024);
+    is_read_after(&rt, rt.alloc(), 1024, TOO_FAR, 1 + 4 * 1025);
 }
 
 /// A walk past so many modules ends so, and as much is told of it.
-fn is_read_behind(rt: &impl Abort, alloc: Global, between: usize, end: u32, count: usize)
+fn is_read_after(rt: &impl Abort, alloc: Global, between: usize, end: u32, count: usize)
     requires { between ≤ 1024 }
 {
     let ignored = [Name::from_text(b"B")];

@@ -194,18 +194,18 @@ fn add(rt: &impl Abort, level: &mut NextLevel, key: u64, successor: &[Symbol])
 }
 
 #[test]
-fn a_cut_goes_on_behind_the_children_of_one_symbol(rt: HostRuntime) {
+fn a_cut_goes_on_after_the_children_of_one_symbol(rt: HostRuntime) {
     let mut level = NextLevel::new(rt.alloc(), Lineage::Places, 4);
     add(&rt, &mut level, 70, &[Symbol::Push]);
     let with_cut = [letter(b"A"), Symbol::Cut, letter(b"B"), Symbol::Push];
     add(&rt, &mut level, 71, &with_cut);
     add(&rt, &mut level, 72, &[letter(b"C"), Symbol::Pop]);
     add(&rt, &mut level, 73, &[Symbol::Pop, letter(b"D")]);
-    is_made_behind_a_cut(&rt, &level.finish().expect(&rt, "it has room"));
+    is_made_after_a_cut(&rt, &level.finish().expect(&rt, "it has room"));
 }
 
 /// A level is `[A]D`, of the first, the second and the fourth symbol.
-fn is_made_behind_a_cut(rt: &impl Abort, made: &Level) {
+fn is_made_after_a_cut(rt: &impl Abort, made: &Level) {
     let symbols = [Symbol::Push, letter(b"A"), Symbol::Pop, letter(b"D")];
     is_true(rt, made.symbols.symbols() == symbols.as_slice());
     let origins = [child(0, 0), child(1, 0), child(3, 0), child(3, 1)];
@@ -225,8 +225,8 @@ fn children_by_names_are_counted_by_letter(rt: HostRuntime) {
     let mut level = NextLevel::new(rt.alloc(), Lineage::Names, 6);
     let with_cut = [letter(b"A"), Symbol::Push, Symbol::Cut, letter(b"A")];
     add(&rt, &mut level, 70, &with_cut);
-    let behind = [Symbol::Pop, letter(b"A"), letter(b"B"), letter(b"A")];
-    add(&rt, &mut level, 71, &behind);
+    let after = [Symbol::Pop, letter(b"A"), letter(b"B"), letter(b"A")];
+    add(&rt, &mut level, 71, &after);
     is_counted_by_letter(&rt, &level.finish().expect(&rt, "it has room"));
 }
 

@@ -56,7 +56,7 @@ pub fn pictures() -> &'static [Script] {
 pub fn bounds_and_places() -> &'static [Script] {
     &[
         Script {
-            name: "places behind each symbol of a homomorphism",
+            name: "places after each symbol of a homomorphism",
             text: "axiom AA\nhom h: A => F(2)+\nat 0\nat 1\nat 2\nat 3\nat 4\nat 5\n",
             replies: "ok 0/0\nok 0/0\nat 0 0 0 0 1 0 1\nat 0 2 0 0 1 0 1\nat 0 2 0 -1 0 0 1\nat -2 2 0 -1 0 0 1\nat -2 2 0 0 -1 0 1\nrefused place 4\n",
         },
@@ -71,7 +71,7 @@ pub fn bounds_and_places() -> &'static [Script] {
             replies: "ok 0/0\nbounds -1 0 0 2 0 0\nat 0 0 0 0 1 0 1\nat 0 1 0 0 1 0 1\nat 0 9 0 0 1 0 1\nrefused place 4\n",
         },
         Script {
-            name: "the width behind a branch",
+            name: "the width after a branch",
             text: "axiom F[!(3)+F]F\nat 5\nat 6\n",
             replies: "ok 0/0\nat -1 1 0 -1 0 0 3\nat 0 1 0 0 1 0 1\n",
         },
@@ -91,7 +91,7 @@ pub fn bounds_and_places() -> &'static [Script] {
             replies: "ok 0/0\nok 0/0\nok 0/0\nok 0/0\nok 7/7\nbounds -3 1 -1 3 -3 1\nat 0 0 -1 0 0 1 1\nat 0 1 0 0 1 0 1\nat -1 2 0 0 0 -1 3\nat -1 2 -2 0 0 -1 3\n",
         },
         Script {
-            name: "places behind an edit",
+            name: "places after an edit",
             text: "axiom F\nat 1\naxiom F(2)\nat 1\nundo\nbounds\n",
             replies: "ok 0/0\nat 0 1 0 0 1 0 1\nok 0/0\nat 0 2 0 0 1 0 1\nok 0/0\nbounds 0 0 0 1 0 0\n",
         },

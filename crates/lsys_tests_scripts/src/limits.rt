@@ -27,7 +27,7 @@ pub fn limited() -> &'static [(u32, &'static str, &'static str, &'static str)] {
         ),
         (
             26,
-            "a fault before the limit of the level behind it",
+            "a fault before the limit of the level after it",
             "axiom AB(3)\nproduction a: A => AA\nproduction b: B(x) : 1/x >= 0 => B(x-1)\ndepth 3\ndepth 4\naxiom AB(4)\ndepth 4\ndepth 5\naxiom AB(2)\ndepth 4\nstring 1\n",
             "ok 0/0\nok 0/0\nok 0/0\nok 10/10\nrefused fault divide-by-zero level 3 module 9\nok 3/10\nrefused limit level 4\nrefused limit level 4\nrefused fault divide-by-zero level 2 module 5\nrefused limit level 4\nAAB(3)\n",
         ),

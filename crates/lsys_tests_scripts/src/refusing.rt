@@ -55,7 +55,7 @@ pub fn refusals() -> &'static [Script] {
             replies: "refused table 10\n",
         },
         Script {
-            name: "a level behind the depth",
+            name: "a level after the depth",
             text: "string 1\n",
             replies: "refused level 8\n",
         },

@@ -60,7 +60,7 @@ pub fn steps() -> &'static [Script] {
             replies: "ok 0/0\nA\n",
         },
         Script {
-            name: "nothing is answered behind the end",
+            name: "nothing is answered after the end",
             text: "axiom A\nquit\nstring\n",
             replies: "ok 0/0\n",
         },

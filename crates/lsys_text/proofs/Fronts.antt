@@ -71,11 +71,11 @@ word-front (c ∷ bytes) h l =
     rw w (h, Every-front is_word_byte bytes, few)
 
 -- what stands after the letter of a name with a `_`
-pub record IsTail (behind tail : List ℕ) : Type 0 where
-  pub cut : take (length tail + 1) behind ≡ 95 ∷ tail
+pub record IsTail (after tail : List ℕ) : Type 0 where
+  pub cut : take (length tail + 1) after ≡ 95 ∷ tail
   pub plain : Every is_alphanumeric tail
   pub few : length tail ≤ 6
-  pub within : length tail + 1 ≤ length behind
+  pub within : length tail + 1 ≤ length after
 
 take-front_by : (p : ℕ → Bool) (n c : ℕ) (xs : List ℕ) (b : Bool) → p c ≡ b → take (length (take n (front p xs))) xs ≡ take n (front p xs)
     → take (length (take (suc n) (front p (c ∷ xs)))) (c ∷ xs) ≡ take (suc n) (front p (c ∷ xs))
@@ -103,7 +103,7 @@ tail_by : (c : ℕ) (xs : List ℕ) (b : Bool) → (c == 95) ≡ b → 0 < lengt
 tail_by c xs false e h = let none = rw e at h in absurd (omega arith)
 tail_by c xs true e h = rw e (underscore_tail c xs (eqb-true c 95 e))
 
-pub tail-is : (behind : List ℕ) → 0 < length (name_tail behind) → IsTail behind (name_tail behind)
+pub tail-is : (after : List ℕ) → 0 < length (name_tail after) → IsTail after (name_tail after)
 tail-is [] h = absurd (omega arith)
 tail-is (c ∷ xs) h = tail_by c xs (c == 95) refl h
 

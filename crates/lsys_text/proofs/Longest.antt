@@ -53,8 +53,8 @@ name-front (c ∷ bytes) more h e =
     record { name = found.0; is = found.1 }
 
 -- how many bytes of a name stand after its letter
-pub name_more-tail : (behind : List ℕ) (n : ℕ) → 0 < length behind → get_or behind 0 0 ≡ 95 → n ≡ min (length (front is_alphanumeric (drop 1 behind))) 6 → 0 < n
-    → n + 1 ≡ (name_with 0 (name_tail behind)).1
+pub name_more-tail : (after : List ℕ) (n : ℕ) → 0 < length after → get_or after 0 0 ≡ 95 → n ≡ min (length (front is_alphanumeric (drop 1 after))) 6 → 0 < n
+    → n + 1 ≡ (name_with 0 (name_tail after)).1
 name_more-tail [] n s u e p = absurd (omega arith)
 name_more-tail (c ∷ xs) n s u e p =
     let long : length (take 6 (front is_alphanumeric xs)) ≡ n = length-take 6 (front is_alphanumeric xs) ∙ omega arith in

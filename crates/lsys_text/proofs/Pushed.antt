@@ -12,12 +12,12 @@ use Rattle.lsys_text.specs.declared.token_kind.Token.{Token}
 use Rattle.lsys_text.specs.declared.refusals.TextRefusal.{TextRefusal}
 use Rattle.lsys_text.specs.declared.refusals.TextRefusal.TheVariants.{Byte, Memory}
 use Rattle.lsys_text.specs.Tokens.{token_of, kind_of}
-use Rattle.lsys_text.specs.Scans.{mode_of, lexeme_of, first_token, as_token, rest_from, after, IsCursorBehind, IsPushed, IsStep}
+use Rattle.lsys_text.specs.Scans.{mode_of, lexeme_of, first_token, as_token, rest_from, after, IsCursorAfter, IsPushed, IsStep}
 use Rattle.lsys_text.proofs.Reading.{step-token, same-rest, after-token, after-err, after-ok, before-err, before-ok}
 
 -- what is left of a line begins with the token that is read
 rest-read : (line : List ℕ) (c next : Cursor) (n : ℕ) (x : Lexeme) → n ≡ prefix_len is_blank (drop c.place line)
-    → first_token (mode_of c.mode) (drop (c.place + n) line) ≡ Some (lexeme_of x) → IsCursorBehind (c.place + n) c.mode x next
+    → first_token (mode_of c.mode) (drop (c.place + n) line) ≡ Some (lexeme_of x) → IsCursorAfter (c.place + n) c.mode x next
     → rest_from line c ≡ before_rest (token_of (as_token x (c.place + n))) (rest_from line next)
 rest-read line c next n x e f h =
     step-token (mode_of c.mode) line c.place n (kind_of x.kind) x.more e f ∙ same-rest _ _ _ _ _ line (sym h.1) (sym h.0)

@@ -45,9 +45,9 @@ no-blank_by c xs true e ih = let one : 1 + prefix_len is_blank xs ≡ suc (prefi
 no-blank_by c xs false e ih = rw e e
 
 -- what stands after the blanks of a text is no blank
-no-blank-behind : (xs : List ℕ) → begins_with is_blank (drop (prefix_len is_blank xs) xs) ≡ false
-no-blank-behind [] = refl
-no-blank-behind (c ∷ xs) = no-blank_by c xs (is_blank c) refl (no-blank-behind xs)
+no-blank-after : (xs : List ℕ) → begins_with is_blank (drop (prefix_len is_blank xs) xs) ≡ false
+no-blank-after [] = refl
+no-blank-after (c ∷ xs) = no-blank_by c xs (is_blank c) refl (no-blank-after xs)
 
 read-token : (m : Mode) (p : ℕ) (xs : List ℕ) (k : Kind) (more : ℕ) → begins_with is_blank xs ≡ false → first_token m xs ≡ Some (k, more)
     → tokens_from m zero p xs ≡ before_rest (record { kind = k; start = p; stop = p + 1 + more }) (tokens_from (next_mode m k) zero (p + 1 + more) (drop (suc more) xs))
@@ -58,30 +58,30 @@ read-none : (m : Mode) (p : ℕ) (xs : List ℕ) → 0 < length xs → begins_wi
 read-none m p [] s d e = absurd (omega arith)
 read-none m p (c ∷ xs) s d e = at-no-token m p c xs d e
 
-behind_blanks : (m : Mode) (line : List ℕ) (place n : ℕ) → n ≡ prefix_len is_blank (drop place line)
+after_blanks : (m : Mode) (line : List ℕ) (place n : ℕ) → n ≡ prefix_len is_blank (drop place line)
     → tokens_from m zero place (drop place line) ≡ tokens_from m zero (place + n) (drop (place + n) line)
-behind_blanks m line place n e =
+after_blanks m line place n e =
     after-blanks m place (drop place line)
     ∙ ap (λ k. tokens_from m zero (place + k) (drop k (drop place line))) (sym e)
     ∙ ap (λ xs. tokens_from m zero (place + n) xs) (drop-drop n place line)
 
 no_blank_there : (line : List ℕ) (place n : ℕ) → n ≡ prefix_len is_blank (drop place line) → begins_with is_blank (drop (place + n) line) ≡ false
 no_blank_there line place n e =
-    ap (begins_with is_blank) (sym (drop-drop n place line) ∙ ap (λ k. drop k (drop place line)) e) ∙ no-blank-behind (drop place line)
+    ap (begins_with is_blank) (sym (drop-drop n place line) ∙ ap (λ k. drop k (drop place line)) e) ∙ no-blank-after (drop place line)
 
 -- only blanks are left
 pub step-end : (m : Mode) (line : List ℕ) (place n : ℕ) → n ≡ prefix_len is_blank (drop place line) → place + n ≡ length line
     → tokens_from m zero place (drop place line) ≡ Ok []
 step-end m line place n e l =
     let none : drop (place + n) line ≡ [] = drop_all (place + n) line (omega arith) in
-    behind_blanks m line place n e ∙ ap (λ xs. tokens_from m zero (place + n) xs) none
+    after_blanks m line place n e ∙ ap (λ xs. tokens_from m zero (place + n) xs) none
 
 -- no token begins after the blanks
 pub step-none : (m : Mode) (line : List ℕ) (place n : ℕ) → n ≡ prefix_len is_blank (drop place line) → place + n < length line
     → first_token m (drop (place + n) line) ≡ None → tokens_from m zero place (drop place line) ≡ Err (place + n + 1)
 step-none m line place n e l f =
     let some : 0 < length (drop (place + n) line) = omega (arith, length-drop (place + n) line) in
-    behind_blanks m line place n e ∙ read-none m (place + n) (drop (place + n) line) some (no_blank_there line place n e) f
+    after_blanks m line place n e ∙ read-none m (place + n) (drop (place + n) line) some (no_blank_there line place n e) f
 
 -- a token stands after the blanks
 pub step-token : (m : Mode) (line : List ℕ) (place n : ℕ) (k : Kind) (more : ℕ) → n ≡ prefix_len is_blank (drop place line)
@@ -92,7 +92,7 @@ step-token m line place n k more e f =
     let t : Token = record { kind = k; start = place + n; stop = place + n + 1 + more } in
     let on : place + n + suc more ≡ place + n + 1 + more = omega arith in
     let rest : drop (suc more) (drop (place + n) line) ≡ drop (place + n + 1 + more) line = drop-drop (suc more) (place + n) line ∙ ap (λ i. drop i line) on in
-    behind_blanks m line place n e ∙ read-token m (place + n) (drop (place + n) line) k more (no_blank_there line place n e) f
+    after_blanks m line place n e ∙ read-token m (place + n) (drop (place + n) line) k more (no_blank_there line place n e) f
     ∙ ap (λ xs. before_rest t (tokens_from (next_mode m k) zero (place + n + 1 + more) xs)) rest
 
 -- a token is read, in the same mode and at the same place

@@ -52,8 +52,8 @@ after ts (Ok us) = Ok (ts ++ us)
 after ts (Err column) = Err column
 
 -- the line goes on in the mode after a token of this kind
-abbrev pub IsModeBehind : Mode → TokenKind → Cursor → Type 0
-IsModeBehind mode kind next = mode_of next.mode ≡ syntax.next_mode (mode_of mode) (kind_of kind)
+abbrev pub IsModeAfter : Mode → TokenKind → Cursor → Type 0
+IsModeAfter mode kind next = mode_of next.mode ≡ syntax.next_mode (mode_of mode) (kind_of kind)
 
 -- the tokens of a line from a cursor on
 abbrev pub rest_from : List ℕ → Cursor → Result (List syntax.Token) ℕ
@@ -77,14 +77,14 @@ IsRefusalFrom line c (Byte column) = rest_from line c ≡ Err column
 IsRefusalFrom line c Memory = IsOk (rest_from line c)
 
 -- after a token that begins at a place, in the mode of what follows it
-abbrev pub IsCursorBehind : ℕ → Mode → Lexeme → Cursor → Type 0
-IsCursorBehind start mode x next = (next.place ≡ start + 1 + x.more) × IsModeBehind mode x.kind next
+abbrev pub IsCursorAfter : ℕ → Mode → Lexeme → Cursor → Type 0
+IsCursorAfter start mode x next = (next.place ≡ start + 1 + x.more) × IsModeAfter mode x.kind next
 
 -- a token that begins at a place is added, and the line goes on after it; or there is no room, and the rest is told of
 abbrev pub IsPushed : List ℕ → List Token → ℕ → Mode → Lexeme → List Token → Result (Option Cursor) TextRefusal → Type 0
 IsPushed line old start mode x new (Ok None) = ⊥
-IsPushed line old start mode x new (Ok (Some next)) = (new ≡ old ++ as_token x start ∷ []) × IsCursorBehind start mode x next
-IsPushed line old start mode x new (Err refusal) = (new ≡ old) × ((next : Cursor) × IsCursorBehind start mode x next × IsRefusalFrom line next refusal)
+IsPushed line old start mode x new (Ok (Some next)) = (new ≡ old ++ as_token x start ∷ []) × IsCursorAfter start mode x next
+IsPushed line old start mode x new (Err refusal) = (new ≡ old) × ((next : Cursor) × IsCursorAfter start mode x next × IsRefusalFrom line next refusal)
 
 -- the next token is passed: what is refused after it is refused before it too
 abbrev pub IsPassed : List ℕ → Cursor → Result (Option Cursor) TextRefusal → Type 0

@@ -37,8 +37,8 @@ pub fn tokens(alloc: Global, line: &[u8]) -> Result<Vec<Token>, TextRefusal>
 {
     let mut found = Vec::new(alloc);
     let mut cursor = Cursor::new();
-    while let Some(behind) = push_token(&mut found, line, cursor)? {
-        cursor = behind;
+    while let Some(after) = push_token(&mut found, line, cursor)? {
+        cursor = after;
     }
     Ok(found)
 }

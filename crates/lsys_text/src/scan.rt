@@ -7,7 +7,7 @@ ghost use Rattle.lsys_syntax.specs.Tokens.{is_blank, is_digit, is_letter, is_alp
 ghost use Rattle.lsys_syntax.specs.Pieces.{Every};
 ghost use Rattle.lsys_text.specs.Tokens.{kind_of, IsMarkByte, HasMarkByte, is_mark, LiesInLine};
 ghost use Rattle.lsys_text.specs.declared.refusals.TextRefusal.TheVariants.{Byte};
-ghost use Rattle.lsys_text.specs.Scans.{mode_of, lexeme_of, begins_with, first_token, first_name, first_mark, as_token, IsStep, IsPushed, IsPassed, IsRefusalFrom, front_number, front_word, IsFurther, IsModeBehind};
+ghost use Rattle.lsys_text.specs.Scans.{mode_of, lexeme_of, begins_with, first_token, first_name, first_mark, as_token, IsStep, IsPushed, IsPassed, IsRefusalFrom, front_number, front_word, IsFurther, IsModeAfter};
 
 use crate::names::{Name, Word};
 use crate::refusals::TextRefusal;
@@ -94,9 +94,9 @@ fn push_lexeme(
     ensures pushed { IsPushed line.now found.old.items start mode lexeme found.new.items result }
 {
     let place = start + 1 + lexeme.more;
-    let behind = Cursor {
+    let after = Cursor {
         place,
-        mode: mode_behind(mode, lexeme.kind),
+        mode: mode_after(mode, lexeme.kind),
     };
     let token = Token {
         kind: lexeme.kind,
@@ -104,8 +104,8 @@ fn push_lexeme(
         end: place as u32,
     };
     match found.push(token) {
-        Ok(()) => Ok(Some(behind)),
-        Err(_) => Err(refusal_from(line, behind)),
+        Ok(()) => Ok(Some(after)),
+        Err(_) => Err(refusal_from(line, after)),
     }
 }
 
@@ -128,7 +128,7 @@ fn refusal_from(line: &[u8], cursor: Cursor) -> TextRefusal
     let mut cursor = cursor;
     'rest: loop {
         match pass_token(line, cursor) {
-            Ok(Some(behind)) => cursor = behind,
+            Ok(Some(after)) => cursor = after,
             Ok(None) => return TextRefusal::Memory,
             Err(refusal) => return refusal,
         }
@@ -149,7 +149,7 @@ fn pass_token(line: &[u8], cursor: Cursor) -> Result<Option<Cursor>, TextRefusal
     match token_at(cursor.mode, &line[start..]) {
         Some(lexeme) => Ok(Some(Cursor {
             place: start + 1 + lexeme.more,
-            mode: mode_behind(cursor.mode, lexeme.kind),
+            mode: mode_after(cursor.mode, lexeme.kind),
         })),
         None => Err(refused_byte(start)),
     }
@@ -196,11 +196,11 @@ pub fn token_at(mode: Mode, text: &[u8]) -> Option<Lexeme>
 }
 
 /// The mode after a token.
-pub fn mode_behind(mode: Mode, kind: TokenKind) -> Mode
+pub fn mode_after(mode: Mode, kind: TokenKind) -> Mode
     ensures { mode_of result ≡ next_mode (mode_of mode) (kind_of kind) }
 {
     match (mode, kind) {
-        (Mode::First, TokenKind::Word(word)) => mode_behind_word(word),
+        (Mode::First, TokenKind::Word(word)) => mode_after_word(word),
         (Mode::First, _) => Mode::Words,
         (Mode::UntilColon, TokenKind::Mark(b':')) => Mode::Modules,
         _ => mode,
@@ -208,7 +208,7 @@ pub fn mode_behind(mode: Mode, kind: TokenKind) -> Mode
 }
 
 // The mode after the first word of a line.
-fn mode_behind_word(word: Word) -> Mode
+fn mode_after_word(word: Word) -> Mode
     ensures { mode_of result ≡ after_word word }
 {
     let word = word.text();
@@ -313,14 +313,14 @@ fn name_at(text: &[u8]) -> Lexeme
 }
 
 // How many bytes of a name stand after its letter.
-fn name_more(behind: &[u8]) -> usize
-    ensures more { result ≡ (name_with 0 (name_tail behind.now)).1 }
-    ensures within { result ≤ length behind.now }
+fn name_more(after: &[u8]) -> usize
+    ensures more { result ≡ (name_with 0 (name_tail after.now)).1 }
+    ensures within { result ≤ length after.now }
 {
-    if behind.is_empty() || behind[0] != b'_' {
+    if after.is_empty() || after[0] != b'_' {
         return 0;
     }
-    match plain_len(&behind[1..]).min(6) {
+    match plain_len(&after[1..]).min(6) {
         0 => 0,
         tail => tail + 1,
     }

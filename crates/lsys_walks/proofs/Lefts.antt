@@ -7,7 +7,7 @@ use Rattle.lsys_spec.specs.Bodies.{Pattern}
 use Rattle.lsys_spec.specs.Levels as L
 use Rattle.lsys_spec.specs.Levels.{ModuleValue, AreMates, way, Step, Passed, Around, OutOf}
 use Rattle.lsys_spec.specs.Walks as W
-use Rattle.lsys_spec.specs.Walks.{Mark, Told, says, before, fits, left_walk, behind}
+use Rattle.lsys_spec.specs.Walks.{Mark, Told, says, before, fits, left_walk, followed_by}
 use Rattle.lsys_spec.proofs.Meetings.{met}
 use Rattle.lsys_spec.specs.Choice.{params_of}
 use Rattle.lsys_spec.specs.Meaning.{most_entries}
@@ -75,15 +75,15 @@ module _ (f : ModuleName → Bool) (d : Mark) (qs : List Pattern) (row : List Sp
       ∙ ap (before (W.Branched d (naming o) (naming t))) (again naming mate due q.0 q.1)
 
   at_module : (naming : ℕ → List ℕ) (p at due t : ℕ) (q : Pattern) (m : ModuleValue) → p + 1 ≡ at → reverse (take due qs) ≡ q ∷ reverse (take (due - 1) qs) → Shows row p (Module m) t
-      → left_on naming due at ≡ met (f m.name) (fits q (L.Module (naming t) m)) d (L.Module (naming t) m) (left_on naming due p) (behind (L.Module (naming t) m) (left_on naming (due - 1) p))
+      → left_on naming due at ≡ met (f m.name) (fits q (L.Module (naming t) m)) d (L.Module (naming t) m) (left_on naming due p) (followed_by (L.Module (naming t) m) (left_on naming (due - 1) p))
   at_module naming p at due t q m h k s =
       seen naming p at due q (Passed (L.Module (naming t) m)) (way (level_by naming row) p) h k (way_module (level_by naming row) p m (naming t) (shown row p (Module m) t naming s))
-      ∙ ap (λ u. met (f m.name) (fits q (L.Module (naming t) m)) d (L.Module (naming t) m) u (behind (L.Module (naming t) m) (left_on naming (due - 1) p))) (again naming p due q k)
+      ∙ ap (λ u. met (f m.name) (fits q (L.Module (naming t) m)) d (L.Module (naming t) m) u (followed_by (L.Module (naming t) m) (left_on naming (due - 1) p))) (again naming p due q k)
 
   at_met : (naming : ℕ → List ℕ) (p at due t : ℕ) (q : Pattern) (m : ModuleValue) → p + 1 ≡ at → 0 < due → due ≤ length qs → q ≡ get_or qs (due - 1) q → Shows row p (Module m) t
-      → left_on naming due at ≡ before (entry_by naming (noted_met (f m.name) d t m)) (going (f m.name) (fits q (L.Module [] m)) (left_on naming due p) (behind (L.Module (naming t) m) (left_on naming (due - 1) p)))
+      → left_on naming due at ≡ before (entry_by naming (noted_met (f m.name) d t m)) (going (f m.name) (fits q (L.Module [] m)) (left_on naming due p) (followed_by (L.Module (naming t) m) (left_on naming (due - 1) p)))
   at_met naming p at due t q m h k l e s =
-      at_module naming p at due t q m h (turned due q k l e) s ∙ met_is (f m.name) (fits q (L.Module [] m)) d t m naming (left_on naming due p) (behind (L.Module (naming t) m) (left_on naming (due - 1) p))
+      at_module naming p at due t q m h (turned due q k l e) s ∙ met_is (f m.name) (fits q (L.Module [] m)) d t m naming (left_on naming due p) (followed_by (L.Module (naming t) m) (left_on naming (due - 1) p))
 
   -- so far
   pub record Walk (from at due most : ℕ) (old now : List Noted) (bound more : List ℤ) : Type 0 where
@@ -149,7 +149,7 @@ module _ (f : ModuleName → Bool) (d : Mark) (qs : List Pattern) (row : List Sp
   module _ {from at due p t : ℕ} {q : Pattern} {m : ModuleValue} {old now new : List Noted} {bound more : List ℤ} (w : Walk from at due most_entries old now bound more) (h : p + 1 ≡ at) (k : 0 < due)
       (e : q ≡ get_or qs (due - 1) q) (s : Shows row p (Module m) t) (a : new ≡ now ++ noted_met (f m.name) d t m ∷ []) where
     abbrev fitted : (ℕ → List ℕ) → Told Answer
-    fitted naming = behind (L.Module (naming t) m) (left_on naming (due - 1) p)
+    fitted naming = followed_by (L.Module (naming t) m) (left_on naming (due - 1) p)
 
     abbrev rest : (ℕ → List ℕ) → Told Answer
     rest naming = going (f m.name) (fits q (L.Module [] m)) (left_on naming due p) (fitted naming)

@@ -34,7 +34,7 @@ shows levels n t p e k h a b = subst (λ i. Shows (spots_at levels i) p e k) h (
 -- the mate of a bracket that ends a branch
 pub record Mated (row : List Spotted) (p q o : ℕ) : Type 0 where
   pub within : q < length row
-  pub behind : q < p
+  pub after : q < p
   pub are : (naming : ℕ → List ℕ) → AreMates (level_by naming row) q p
   pub begins : Shows row q Push o
 
@@ -59,7 +59,7 @@ mated levels n m t p q k h i a b d =
     let d' : option_map (λ s. s.tag) (slice_get row q) ≡ Some k = subst (λ i. option_map (λ (s : Spotted). s.tag) (slice_get (spots_at levels i) q) ≡ Some k) (i ∙ h) d in
     let c = a'.closes b' in
     let bare : ℕ → List ℕ = λ t. [] in
-    record { within = a'.within; behind = c.0; are = c.1; begins = record { seen = push_seen row q (c.1 bare).opens.0 bare (c.1 bare).opens.1; tag = d' } }
+    record { within = a'.within; after = c.0; are = c.1; begins = record { seen = push_seen row q (c.1 bare).opens.0 bare (c.1 bare).opens.1; tag = d' } }
 
 -- the pattern that is read
 pub same_pattern : (patterns : List code.Pattern) (i : ℕ) (q : code.Pattern) → i < length patterns → q ≡ get_or patterns i q → as_pattern q ≡ get_or (map as_pattern patterns) i (as_pattern q)
@@ -68,7 +68,7 @@ same_pattern patterns i q h e = ap as_pattern e ∙ sym (get_or_from_slice_get (
 -- the mate of a bracket that begins a branch
 pub record Ended (row : List Spotted) (p q c : ℕ) : Type 0 where
   pub within : q < length row
-  pub behind : p < q
+  pub after : p < q
   pub are : (naming : ℕ → List ℕ) → AreMates (level_by naming row) p q
   pub ends : Shows row q Pop c
 
@@ -94,7 +94,7 @@ ended levels n m t p q k h i a b d =
     let c = a'.opens b' in
     let bare : ℕ → List ℕ = λ t. [] in
     let l = ends_at (level_by bare row) p q (c.1 bare) in
-    record { within = a'.within; behind = c.0; are = c.1; ends = record { seen = pop_seen row q l.0 bare l.1; tag = d' } }
+    record { within = a'.within; after = c.0; are = c.1; ends = record { seen = pop_seen row q l.0 bare l.1; tag = d' } }
 
 -- a spot stands on level t
 pub record Stands {Spot : Type 0} (levels : List (List Spotted)) (level place : Spot → ℕ) (t : ℕ) (s : Spot) : Type 0 where

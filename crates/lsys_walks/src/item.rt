@@ -31,7 +31,7 @@ pub(crate) fn pattern_in(item: &Item) -> Option<&Pattern>
 }
 
 /// The place after the bracket that ends the branch that begins at a place.
-pub(crate) fn behind(items: &[Item], at: usize) -> usize
+pub(crate) fn after(items: &[Item], at: usize) -> usize
     requires { slice_get items.now at ≡ Some Item.Push }
     ensures later { at < result }
     ensures within { result ≤ length items.now }

@@ -7,7 +7,7 @@ ghost use Rattle.lsys_walks.specs.Walked.{FoundAtBranch, MissedAsItWas};
 
 use crate::counter::Counter;
 use crate::entry::Entry;
-use crate::item::{behind, is_wanted, pattern_in};
+use crate::item::{after, is_wanted, pattern_in};
 use crate::mark::Mark;
 use crate::meeting::{Meeting, meet_module};
 use crate::reading::Reading;
@@ -75,7 +75,7 @@ pub fn right_reads<'a, W: LevelView, V: Ledger>(
                 }
                 match inner_reads(view, here, filter, items, next, mark, trace, bound, visited)? {
                     Walked::TooFar => return Ok(Walked::TooFar),
-                    Walked::Found => next = behind(items, next),
+                    Walked::Found => next = after(items, next),
                     Walked::Missed => {}
                 }
             }

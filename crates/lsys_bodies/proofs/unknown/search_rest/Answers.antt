@@ -2,7 +2,7 @@ use Rattle.std.proofs.Common.{arith}
 use Rattle.std.proofs.lemmas.Result.{err_from_is_err_and}
 use Rattle.lsys_syntax.specs.Tokens.{Colon, At}
 use Rattle.lsys_text.specs.Tokens.{kind_row}
-use Rattle.lsys_bodies.proofs.Searches.{rest-count, rest-at_condition, rest-at_weight, rest-behind}
+use Rattle.lsys_bodies.proofs.Searches.{rest-count, rest-at_condition, rest-at_weight, rest-after}
 use Rattle.lsys_bodies.proofs.unknown.search_rest.Goals as goal
 
 pub search_option-requires-clause-room : goal.search_option-requires-clause-room
@@ -28,4 +28,4 @@ pub search_images-requires-clause-room : goal.search_images-requires-clause-room
 search_images-requires-clause-room c = rw c.deref.ensures.value (omega (arith, rest-count (kind_row c.args.tokens.now) c.args.rule.now, c.requires.room, (c.in_ok-place.ensures Colon).place, (c.in_ok-place-2.ensures Colon).place))
 
 pub returns : goal.returns
-returns c = rest-behind (kind_row c.args.tokens.now) c.args.rule.now (c.in_ok-place.ensures Colon) (c.in_ok-place-2.ensures At) (rw c.deref.ensures.value at c.search_images.ensures)
+returns c = rest-after (kind_row c.args.tokens.now) c.args.rule.now (c.in_ok-place.ensures Colon) (c.in_ok-place-2.ensures At) (rw c.deref.ensures.value at c.search_images.ensures)

@@ -2,11 +2,11 @@ use Rattle.std.proofs.Common.{◌≡◌, ◌+◌, ◌≤◌, ℕ, false, true, S
 use Rattle.std.specs.Prelude.{slice_get, IfSome}
 use Rattle.std.proofs.lemmas.Option.{slice_get_read}
 use Rattle.lsys_module.specs.Views.{symbol_of}
-use Rattle.lsys_rewrite.specs.Cutting.{cutting_behind, symbol_stays}
+use Rattle.lsys_rewrite.specs.Cutting.{next_cutting, symbol_stays}
 use Rattle.lsys_forest.specs.Groves.{Grove, kept_in}
 use Rattle.lsys_children.specs.Children.{ToldNodes}
 use Rattle.lsys_children.specs.Steps.{CanPlace, IsPlaced, new_kid}
-use Rattle.lsys_children.proofs.Cutting.{depth_behind}
+use Rattle.lsys_children.proofs.Cutting.{depth_after}
 use Rattle.lsys_children.proofs.BearingByPlace.{IsBearing, child_there, bearing_start, bearing_skip, bearing_can, bearing_next, bearing_end}
 use Rattle.lsys_children.proofs.births.bear_staying.Goals.{then-is_left, else-is_left}
 use Rattle.lsys_children.proofs.births.bear_staying.Goals as goal
@@ -43,24 +43,24 @@ loop-symbol-preserved g c =
     let parent = c.args.parent in
     let key = c.args.key in
     let there : slice_get ss i ≡ Some s = slice_get_read ss (length ss) i s refl c.loop-symbol-test.true c.symbol-item.is in
-    let behind = c.cutting_behind-cutting.ensures in
+    let after = c.next_cutting-cutting.ensures in
     record {
-      bearing = subst (λ (o : Option ℕ). IsBearing f c.if-is_left.forest parent key ss (i + 1) o t c.if-is_left.told) (sym behind) (elim c.if-is_left.branch [
+      bearing = subst (λ (o : Option ℕ). IsBearing f c.if-is_left.forest parent key ss (i + 1) o t c.if-is_left.told) (sym after) (elim c.if-is_left.branch [
         | then-is_left w ↦
             let stays : symbol_stays o (symbol_of s) ≡ true = sym c.stays-is_left.ensures ∙ w.if-is_left.true in
             let placed = subst (λ n. IsPlaced now w.bear.new.forest parent (child_there key n s) None w.bear.result) is.place
             (subst (λ k. IsPlaced now w.bear.new.forest parent (new_kid (record { code = 0; count = c.loop-symbol.count }) s k) None w.bear.result) w.child_key-child.ensures w.bear.ensures.placed) in
-            subst (λ (x : Grove g.row.A.Denot). IsBearing f x parent key ss (i + 1) (cutting_behind o (symbol_of s)) t c.if-is_left.told) (sym w.forest-is)
-            (subst (λ (x : ToldNodes). IsBearing f w.bear.new.forest parent key ss (i + 1) (cutting_behind o (symbol_of s)) t x) (sym w.told-is)
+            subst (λ (x : Grove g.row.A.Denot). IsBearing f x parent key ss (i + 1) (next_cutting o (symbol_of s)) t c.if-is_left.told) (sym w.forest-is)
+            (subst (λ (x : ToldNodes). IsBearing f w.bear.new.forest parent key ss (i + 1) (next_cutting o (symbol_of s)) t x) (sym w.told-is)
             (bearing_next f now parent key ss i o t t' s there is.bearing w.bear.new.forest w.bear.result w.bear.new.changes c.requires.room.parent_lives stays placed w.bear.ensures.told w.bear.ensures.added))
         | else-is_left w ↦
             let stays : symbol_stays o (symbol_of s) ≡ false = sym c.stays-is_left.ensures ∙ w.if-is_left.false in
-            subst (λ (x : Grove g.row.A.Denot). IsBearing f x parent key ss (i + 1) (cutting_behind o (symbol_of s)) t c.if-is_left.told) (sym w.forest-is)
-            (subst (λ (x : ToldNodes). IsBearing f now parent key ss (i + 1) (cutting_behind o (symbol_of s)) t x) (sym w.told-is)
+            subst (λ (x : Grove g.row.A.Denot). IsBearing f x parent key ss (i + 1) (next_cutting o (symbol_of s)) t c.if-is_left.told) (sym w.forest-is)
+            (subst (λ (x : ToldNodes). IsBearing f now parent key ss (i + 1) (next_cutting o (symbol_of s)) t x) (sym w.told-is)
             (bearing_skip f now parent key ss i o t t' s there is.bearing stays))
       ]);
       place = ap (λ n. n + 1) is.place;
-      depth = subst (λ (o : Option ℕ). IfSome o (λ n. n ≤ i + 1)) (sym behind) (depth_behind o s i is.depth);
+      depth = subst (λ (o : Option ℕ). IfSome o (λ n. n ≤ i + 1)) (sym after) (depth_after o s i is.depth);
       kept = elim c.if-is_left.branch [
         | then-is_left w ↦ ap (λ (x : Grove g.row.A.Denot). kept_in x) w.forest-is ∙ w.bear.ensures.kept ∙ is.kept
         | else-is_left w ↦ ap (λ (x : Grove g.row.A.Denot). kept_in x) w.forest-is ∙ is.kept

@@ -3,7 +3,7 @@ use Rattle.std.specs.Prelude.{is_some, IfSome, ◌≤◌}
 use Rattle.std.proofs.lemmas.Option.{slice_get_read}
 use Rattle.lsys_module.specs.declared.symbol.Symbol.{Symbol}
 use Rattle.lsys_children.proofs.Wishing.{cutting_past, open_past}
-use Rattle.lsys_children.proofs.Cutting.{depth_behind, depth_fits}
+use Rattle.lsys_children.proofs.Cutting.{depth_after, depth_fits}
 use Rattle.std.proofs.lemmas.List.{drop_all}
 use Rattle.lsys_children.proofs.StepLemmas.{drop_at}
 use Rattle.lsys_children.proofs.opens.reaches_end.Goals as goal
@@ -11,8 +11,8 @@ use Rattle.lsys_children.proofs.opens.reaches_end.Goals as goal
 pub loop-symbol-init : goal.loop-symbol-init
 loop-symbol-init c = record { past = refl; depth = tt }
 
-pub cutting_behind-cutting-requires : goal.cutting_behind-cutting-requires
-cutting_behind-cutting-requires c =
+pub next_cutting-cutting-requires : goal.next_cutting-cutting-requires
+next_cutting-cutting-requires c =
     depth_fits c.loop-symbol.cutting c.loop-symbol.symbol-index c.loop-symbol.invariant.depth (let l = c.loop-symbol-test.true in let few = c.requires.short in omega (arith, l, few))
 
 pub loop-symbol-preserved : goal.loop-symbol-preserved
@@ -22,8 +22,8 @@ loop-symbol-preserved c =
     let s = c.symbol-item.result in
     let here : slice_get ss at ≡ Some s = slice_get_read ss (length ss) at s refl c.loop-symbol-test.true c.symbol-item.is in
     record {
-      past = ap (λ (o : Option ℕ). cutting_past o (drop (at + 1) ss)) c.cutting_behind-cutting.ensures ∙ ap (cutting_past c.loop-symbol.cutting) (sym (drop_at ss at s here)) ∙ c.loop-symbol.invariant.past;
-      depth = subst (λ (o : Option ℕ). IfSome o (λ n. n ≤ at + 1)) (sym c.cutting_behind-cutting.ensures) (depth_behind c.loop-symbol.cutting s at c.loop-symbol.invariant.depth);
+      past = ap (λ (o : Option ℕ). cutting_past o (drop (at + 1) ss)) c.next_cutting-cutting.ensures ∙ ap (cutting_past c.loop-symbol.cutting) (sym (drop_at ss at s here)) ∙ c.loop-symbol.invariant.past;
+      depth = subst (λ (o : Option ℕ). IfSome o (λ n. n ≤ at + 1)) (sym c.next_cutting-cutting.ensures) (depth_after c.loop-symbol.cutting s at c.loop-symbol.invariant.depth);
     }
 
 pub returns : goal.returns

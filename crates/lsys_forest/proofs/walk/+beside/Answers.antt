@@ -7,7 +7,7 @@ use Rattle.lsys_forest.specs.Stocks.{nodes_of, changes_of, row_at, node_of}
 use Rattle.lsys_forest.specs.Rows.{oriented, level_nodes, kids_in}
 use Rattle.lsys_forest.proofs.StockLemmas.{stored_of}
 use Rattle.lsys_forest.proofs.RowLemmas.{level_depth, kids_apart, parent_level, parent_root}
-use Rattle.lsys_forest.proofs.WalkLemmas.{IsAlong, walk_end, Behind, amid, behind_start, there, found, walk_on, walk_less, rows_are, level_parent, level_live, kids_live, left_from, next_on}
+use Rattle.lsys_forest.proofs.WalkLemmas.{IsAlong, walk_end, After, amid, after_start, there, found, walk_on, walk_less, rows_are, level_parent, level_live, kids_live, left_from, next_on}
 use Rattle.lsys_forest.proofs.WalkLemmas.{ranked_at}
 use Rattle.lsys_forest.proofs.walk.+beside.Goals as goal
 
@@ -112,12 +112,12 @@ loop-at-init g t c =
     let deep : c.args.depth - 1 ≡ suc (c.args.depth - 1 - 1) = omega (arith, c.if-depth-eq1.false, c.requires.below) in
     let within = subst (λ d. In c.args.node (level_nodes m c.args.root d)) deep c.requires.among in
     let am = amid c.args.way c.args.root cs m c.requires.sound (c.args.depth - 1 - 1) c.args.node n within is in
-    behind_start c.args.way m c.args.root (c.args.depth - 1 - 1) n.parent c.args.node c.beside-at.result am (sym (sym c.in_default-next_to.is ∙ next am.left am.right am.kids)) (c.beside-at.ensures am.before am.after am.level)
+    after_start c.args.way m c.args.root (c.args.depth - 1 - 1) n.parent c.args.node c.beside-at.result am (sym (sym c.in_default-next_to.is ∙ next am.left am.right am.kids)) (c.beside-at.ensures am.before am.after am.level)
 
 pub kids-requires-in-Some-at : goal.kids-requires-in-Some-at
 kids-requires-in-Some-at g t c =
     let m = nodes_of c.args.parts.now in
-    let at = there (Behind c.args.way m c.args.root (c.args.depth - 1 - 1) c.args.node) c.args.way m c.args.root (c.args.depth - 1 - 1) c.in-Some-at.above c.loop-at.at c.loop-at.invariant c.in-Some-at.is in
+    let at = there (After c.args.way m c.args.root (c.args.depth - 1 - 1) c.args.node) c.args.way m c.args.root (c.args.depth - 1 - 1) c.in-Some-at.above c.loop-at.at c.loop-at.invariant c.in-Some-at.is in
     level_live c.args.root (changes_of c.args.parts.now) m c.requires.sound (c.args.depth - 1 - 1) c.in-Some-at.above at.among
 
 pub returns-in-Some-first_of : goal.returns-in-Some-first_of
@@ -126,16 +126,16 @@ returns-in-Some-first_of g t c = λ before after whole.
     let m = nodes_of p in
     let q = c.in-Some-at.above in
     let deep : c.args.depth - 1 ≡ suc (c.args.depth - 1 - 1) = omega (arith, c.if-depth-eq1.false, c.requires.below) in
-    let at = there (Behind c.args.way m c.args.root (c.args.depth - 1 - 1) c.args.node) c.args.way m c.args.root (c.args.depth - 1 - 1) q c.loop-at.at c.loop-at.invariant c.in-Some-at.is in
+    let at = there (After c.args.way m c.args.root (c.args.depth - 1 - 1) c.args.node) c.args.way m c.args.root (c.args.depth - 1 - 1) q c.loop-at.at c.loop-at.invariant c.in-Some-at.is in
     let live = level_live c.args.root (changes_of p) m c.requires.sound (c.args.depth - 1 - 1) q at.among in
     let kids : c.kids-in-Some-at.result.now ≡ kids_in (m q) = c.kids-in-Some-at.ensures ∙ rows_are p.slots p.params p.kids q live in
-    let kid = found (Behind c.args.way m c.args.root (c.args.depth - 1 - 1) c.args.node) c.args.way m c.args.root (c.args.depth - 1 - 1) q c.in-Some-first_of.kid at (sym c.in-Some-first_of.is ∙ c.first_of.ensures ∙ ap (λ (l : List ℕ). first_in (oriented c.args.way l)) kids) in
+    let kid = found (After c.args.way m c.args.root (c.args.depth - 1 - 1) c.args.node) c.args.way m c.args.root (c.args.depth - 1 - 1) q c.in-Some-first_of.kid at (sym c.in-Some-first_of.is ∙ c.first_of.ensures ∙ ap (λ (l : List ℕ). first_in (oriented c.args.way l)) kids) in
     kid ∙ ap first_in (sym (at.rest before after (sym (ap (λ d. oriented c.args.way (level_nodes m c.args.root d)) deep) ∙ whole)))
 
 pub beside-at-requires-in-Some-at : goal.beside-at-requires-in-Some-at
 beside-at-requires-in-Some-at g t c =
     let m = nodes_of c.args.parts.now in
-    let at = there (Behind c.args.way m c.args.root (c.args.depth - 1 - 1) c.args.node) c.args.way m c.args.root (c.args.depth - 1 - 1) c.in-Some-at.above c.loop-at.at c.loop-at.invariant c.in-Some-at.is in
+    let at = there (After c.args.way m c.args.root (c.args.depth - 1 - 1) c.args.node) c.args.way m c.args.root (c.args.depth - 1 - 1) c.in-Some-at.above c.loop-at.at c.loop-at.invariant c.in-Some-at.is in
     let up = at.among in
     let less : 0 < c.args.depth - 1 = omega (arith, c.if-depth-eq1.false, c.requires.below) in
     search rules
@@ -144,24 +144,24 @@ pub loop-at-smaller : goal.loop-at-smaller
 loop-at-smaller g t c =
     let p = c.args.parts.now in
     let m = nodes_of p in
-    let at = there (Behind c.args.way m c.args.root (c.args.depth - 1 - 1) c.args.node) c.args.way m c.args.root (c.args.depth - 1 - 1) c.in-Some-at.above c.loop-at.at c.loop-at.invariant c.in-Some-at.is in
+    let at = there (After c.args.way m c.args.root (c.args.depth - 1 - 1) c.args.node) c.args.way m c.args.root (c.args.depth - 1 - 1) c.in-Some-at.above c.loop-at.at c.loop-at.invariant c.in-Some-at.is in
     subst (λ o. left_from (oriented c.args.way (level_nodes m c.args.root (c.args.depth - 1 - 1))) c.beside-at-in-Some-at.result < left_from (oriented c.args.way (level_nodes m c.args.root (c.args.depth - 1 - 1))) o) (sym c.in-Some-at.is)
-    (walk_less (Behind c.args.way m c.args.root (c.args.depth - 1 - 1) c.args.node) c.args.way m c.args.root (c.args.depth - 1 - 1) (changes_of p) c.requires.sound c.in-Some-at.above c.beside-at-in-Some-at.result at (c.beside-at-in-Some-at.ensures at.passed at.ahead at.whole))
+    (walk_less (After c.args.way m c.args.root (c.args.depth - 1 - 1) c.args.node) c.args.way m c.args.root (c.args.depth - 1 - 1) (changes_of p) c.requires.sound c.in-Some-at.above c.beside-at-in-Some-at.result at (c.beside-at-in-Some-at.ensures at.passed at.ahead at.whole))
 
 pub loop-at-preserved : goal.loop-at-preserved
 loop-at-preserved g t c =
     let p = c.args.parts.now in
     let m = nodes_of p in
     let q = c.in-Some-at.above in
-    let at = there (Behind c.args.way m c.args.root (c.args.depth - 1 - 1) c.args.node) c.args.way m c.args.root (c.args.depth - 1 - 1) q c.loop-at.at c.loop-at.invariant c.in-Some-at.is in
+    let at = there (After c.args.way m c.args.root (c.args.depth - 1 - 1) c.args.node) c.args.way m c.args.root (c.args.depth - 1 - 1) q c.loop-at.at c.loop-at.invariant c.in-Some-at.is in
     let live = level_live c.args.root (changes_of p) m c.requires.sound (c.args.depth - 1 - 1) q at.among in
     let kids : c.kids-in-Some-at.result.now ≡ kids_in (m q) = c.kids-in-Some-at.ensures ∙ rows_are p.slots p.params p.kids q live in
-    walk_on (Behind c.args.way m c.args.root (c.args.depth - 1 - 1) c.args.node) c.args.way m c.args.root (c.args.depth - 1 - 1) q c.beside-at-in-Some-at.result at (sym (sym c.in_default-first_of.is ∙ c.first_of.ensures ∙ ap (λ (l : List ℕ). first_in (oriented c.args.way l)) kids)) (c.beside-at-in-Some-at.ensures at.passed at.ahead at.whole)
+    walk_on (After c.args.way m c.args.root (c.args.depth - 1 - 1) c.args.node) c.args.way m c.args.root (c.args.depth - 1 - 1) q c.beside-at-in-Some-at.result at (sym (sym c.in_default-first_of.is ∙ c.first_of.ensures ∙ ap (λ (l : List ℕ). first_in (oriented c.args.way l)) kids)) (c.beside-at-in-Some-at.ensures at.passed at.ahead at.whole)
 
 pub returns : goal.returns
 returns g t c = λ before after whole.
     let m = nodes_of c.args.parts.now in
     let d = c.args.depth - 1 - 1 in
     let deep : c.args.depth - 1 ≡ suc d = omega (arith, c.if-depth-eq1.false, c.requires.below) in
-    let walk = subst (IsAlong (Behind c.args.way m c.args.root d c.args.node) c.args.way m c.args.root d) c.in_default-at.is c.loop-at.invariant in
-    ap first_in (sym (walk_end (Behind c.args.way m c.args.root d c.args.node) c.args.way m c.args.root d walk before after (sym (ap (λ u. oriented c.args.way (level_nodes m c.args.root u)) deep) ∙ whole)))
+    let walk = subst (IsAlong (After c.args.way m c.args.root d c.args.node) c.args.way m c.args.root d) c.in_default-at.is c.loop-at.invariant in
+    ap first_in (sym (walk_end (After c.args.way m c.args.root d c.args.node) c.args.way m c.args.root d walk before after (sym (ap (λ u. oriented c.args.way (level_nodes m c.args.root u)) deep) ∙ whole)))

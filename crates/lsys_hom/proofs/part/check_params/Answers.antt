@@ -3,10 +3,10 @@ use Rattle.std.proofs.lemmas.Result.{err_from_is_err_and}
 use Rattle.lsys_spec.specs.Meaning.{filled_params}
 use Rattle.lsys_spec.specs.Values.{value}
 use Rattle.lsys_expr.specs.Answers.{arith_of}
-use Rattle.lsys_rewrite.proofs.Behind.{drop_item}
+use Rattle.lsys_rewrite.proofs.After.{drop_item}
 use Rattle.lsys_bodies.specs.Views.{tree_in}
 use Rattle.lsys_hom.specs.Parts.{fault_alone}
-use Rattle.lsys_hom.proofs.Templates.{params_behind, params_first}
+use Rattle.lsys_hom.proofs.Templates.{params_after, params_first}
 use Rattle.lsys_hom.proofs.part.check_params.Goals as goal
 
 pub returns-in_err-eval : goal.returns-in_err-eval
@@ -27,4 +27,4 @@ loop-expr-preserved c =
     let i = c.loop-expr.expr-index in
     let item = c.expr-item.result in
     c.loop-expr.invariant ∙ ap (λ xs. fault_alone (filled_params (map tree_in xs) bound)) (drop_item es i item c.loop-expr-test.true c.expr-item.is)
-    ∙ params_behind c.in_ok-eval.field-0 (value (tree_in item) bound) (filled_params (map tree_in (drop (i + 1) es)) bound) c.in_ok-eval.ensures
+    ∙ params_after c.in_ok-eval.field-0 (value (tree_in item) bound) (filled_params (map tree_in (drop (i + 1) es)) bound) c.in_ok-eval.ensures

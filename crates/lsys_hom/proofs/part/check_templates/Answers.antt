@@ -2,10 +2,10 @@ use Rattle.std.proofs.Common.{◌∙◌, ◌+◌, ap, map, drop, sym}
 use Rattle.std.proofs.lemmas.Result.{err_from_is_err_and}
 use Rattle.lsys_spec.specs.Meaning.{filled}
 use Rattle.lsys_expr.specs.Answers.{arith_of}
-use Rattle.lsys_rewrite.proofs.Behind.{drop_item}
+use Rattle.lsys_rewrite.proofs.After.{drop_item}
 use Rattle.lsys_bodies.specs.Views.{template_of}
 use Rattle.lsys_hom.specs.Parts.{fault_alone}
-use Rattle.lsys_hom.proofs.Templates.{fault_behind, fault_first}
+use Rattle.lsys_hom.proofs.Templates.{fault_after, fault_first}
 use Rattle.lsys_hom.proofs.part.check_templates.Goals as goal
 
 pub returns-in_err-check_template : goal.returns-in_err-check_template
@@ -26,4 +26,4 @@ loop-template-preserved c =
     let i = c.loop-template.template-index in
     let item = c.template-item.result in
     c.loop-template.invariant ∙ ap (λ xs. fault_alone (filled (map template_of xs) bound)) (drop_item ts i item c.loop-template-test.true c.template-item.is)
-    ∙ fault_behind (template_of item) (map template_of (drop (i + 1) ts)) bound c.in_ok-check_template.ensures
+    ∙ fault_after (template_of item) (map template_of (drop (i + 1) ts)) bound c.in_ok-check_template.ensures

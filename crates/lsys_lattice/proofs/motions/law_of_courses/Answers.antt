@@ -1,4 +1,4 @@
-use Rattle.lsys_lattice.proofs.Fronts.{course_anywhere, course_first, course_second, course_branch, course_behind}
+use Rattle.lsys_lattice.proofs.Fronts.{course_anywhere, course_first, course_second, course_branch, course_after}
 use Rattle.lsys_lattice.proofs.motions.law_of_courses.Goals as goal
 
 pub returns-clause-anywhere : goal.returns-clause-anywhere
@@ -13,5 +13,5 @@ returns-clause-second c = course_second
 pub returns-clause-branch : goal.returns-clause-branch
 returns-clause-branch c = course_branch
 
-pub returns-clause-behind : goal.returns-clause-behind
-returns-clause-behind c = course_behind
+pub returns-clause-after : goal.returns-clause-after
+returns-clause-after c = course_after

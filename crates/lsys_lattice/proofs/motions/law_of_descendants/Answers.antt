@@ -5,7 +5,7 @@ use Rattle.lsys_lattice.proofs.Descending.{descendants}
 use Rattle.lsys_lattice.proofs.motions.law_of_descendants.Goals as goal
 
 pub returns-clause-part : goal.returns-clause-part
-returns-clause-part c s t n before part behind y b h e = descendants s n t before part behind y b h e
+returns-clause-part c s t n before part after y b h e = descendants s n t before part after y b h e
 
 pub returns-clause-module : goal.returns-clause-module
-returns-clause-module c s t n before behind y line m b e = descendants s n t before (Module line m ∷ []) behind y b refl e
+returns-clause-module c s t n before after y line m b e = descendants s n t before (Module line m ∷ []) after y b refl e

@@ -1,6 +1,6 @@
 use Rattle.std.proofs.Common.{refl}
 use Rattle.lsys_lattice.proofs.Joining.{motion_branched, motion_module}
-use Rattle.lsys_lattice.proofs.Wholes.{whole_motion, made_motion, either_way, rest_before, rest_behind, bounds_told}
+use Rattle.lsys_lattice.proofs.Wholes.{whole_motion, made_motion, either_way, rest_before, rest_after, bounds_told}
 use Rattle.lsys_lattice.proofs.motions.law_of_motions.Goals as goal
 
 pub returns-clause-joined : goal.returns-clause-joined
@@ -15,8 +15,8 @@ returns-clause-associative c = either_way
 pub returns-clause-rest_before : goal.returns-clause-rest_before
 returns-clause-rest_before c = rest_before
 
-pub returns-clause-rest_behind : goal.returns-clause-rest_behind
-returns-clause-rest_behind c = rest_behind
+pub returns-clause-rest_after : goal.returns-clause-rest_after
+returns-clause-rest_after c = rest_after
 
 pub returns-clause-branch : goal.returns-clause-branch
 returns-clause-branch c = motion_branched

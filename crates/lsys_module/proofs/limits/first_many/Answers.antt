@@ -12,7 +12,7 @@ returns-in-None c =
     let xs = c.requires.scanned.0 in
     let told = whole-run c.args.from c.args.tokens.now xs c.requires.forms c.requires.scanned.1 in
     let read = c.loop-place.invariant in
-    let none = sym c.behind.ensures ∙ c.in-None.is in
+    let none = sym c.after.ensures ∙ c.in-None.is in
     is_placed c.args.from _ xs (Some c.loop-place.place) c.requires.scanned.1
     (stopped c.args.from c.args.tokens.now xs c.loop-place.place c.index-tokens-place.result read.0 c.loop-place.counter c.loop-place-test.true c.index-tokens-place.is read.1 read.2 told (rw c.of.ensures at none))
 
@@ -21,7 +21,7 @@ loop-place-preserved c =
     let xs = c.requires.scanned.0 in
     let told = whole-run c.args.from c.args.tokens.now xs c.requires.forms c.requires.scanned.1 in
     let read = c.loop-place.invariant in
-    let some = sym c.behind.ensures ∙ c.in-Some.is in
+    let some = sym c.after.ensures ∙ c.in-Some.is in
     went_on c.args.from c.args.tokens.now xs c.loop-place.place c.index-tokens-place.result read.0 c.loop-place.counter c.in-Some.next c.loop-place-test.true c.index-tokens-place.is read.1 read.2 told (rw c.of.ensures at some)
 
 pub returns : goal.returns

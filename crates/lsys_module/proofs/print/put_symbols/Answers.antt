@@ -1,7 +1,7 @@
 use Rattle.std.proofs.Common.{◌+◌, ◌∙◌, sym, take, drop, false, map, refl}
 use Rattle.std.proofs.lemmas.List.{take_all}
 use Rattle.lsys_io.proofs.Puts.{puts_nothing, puts_then, puts_failed, puts_answering}
-use Rattle.lsys_module.specs.Printing.{symbols_behind}
+use Rattle.lsys_module.specs.Printing.{symbols_after}
 use Rattle.lsys_module.proofs.PrintedTexts.{string-text, string-rest, symbols-step, runs_on-step, last_runs_on}
 use Rattle.lsys_module.proofs.print.put_symbols.Goals as goal
 
@@ -27,7 +27,7 @@ returns-in_err-runs_on g c =
     let symbols = c.args.symbols.now in
     let i = c.loop-symbol.symbol-index in
     rw (string-rest print symbol symbols (i + 1), symbols-step print symbol false symbols i c.symbol-item.result c.loop-symbol-test.true c.symbol-item.is, ← c.loop-symbol.invariant.runs_on)
-    (puts_failed (symbols_behind print (last_runs_on false (map symbol (take (i + 1) symbols))) (map symbol (drop (i + 1) symbols)))
+    (puts_failed (symbols_after print (last_runs_on false (map symbol (take (i + 1) symbols))) (map symbol (drop (i + 1) symbols)))
     c.from_residual.ensures.0 (puts_then c.loop-symbol.invariant.put c.in_err-runs_on.ensures.put))
 
 pub returns : goal.returns

@@ -9,7 +9,7 @@ pub returns-in-None : goal.returns-in-None
 returns-in-None c =
     let tokens = c.args.tokens.now in
     let place = c.loop-place.place in
-    let step = sym c.in-None.is ∙ c.behind.ensures.step in
+    let step = sym c.in-None.is ∙ c.after.ensures.step in
     let turn = refused-turn tokens place c.index-tokens-place.result c.loop-place.progress c.of.result None c.loop-place-test.true c.index-tokens-place.is c.of.ensures step in
     let verdict : string_verdict c.args.from tokens ≡ stops place = found_place c.args.from tokens place (c.loop-place.invariant.same ∙ turn) in
     let told : Refused tokens c.args.from place = refused tokens c.args.from place verdict in
@@ -17,7 +17,7 @@ returns-in-None c =
       verdict = verdict;
       string = λ forms. tt;
       no_string = told.no_string;
-      behind = told.behind;
+      after = told.after;
       within = omega arith;
       before = told.before;
       none_goes_on = told.none_goes_on;
@@ -25,7 +25,7 @@ returns-in-None c =
 
 pub loop-place-preserved : goal.loop-place-preserved
 loop-place-preserved c =
-    let step = sym c.in-Some.is ∙ c.behind.ensures.step in
+    let step = sym c.in-Some.is ∙ c.after.ensures.step in
     let turn = refused-turn c.args.tokens.now c.loop-place.place c.index-tokens-place.result c.loop-place.progress c.of.result (Some c.in-Some.next) c.loop-place-test.true c.index-tokens-place.is c.of.ensures step in
     record {
       few = omega (arith, c.in-Some.ensures.few);
@@ -45,7 +45,7 @@ returns-then-not-may_end c =
       verdict = verdict;
       string = λ forms. tt;
       no_string = told.no_string;
-      behind = told.behind;
+      after = told.after;
       within = omega arith;
       before = told.before;
       none_goes_on = told.none_goes_on;
@@ -62,7 +62,7 @@ returns c =
       verdict = is;
       string = λ forms. read_as_string tokens c.args.from forms is.0 is.1;
       no_string = tt;
-      behind = tt;
+      after = tt;
       within = tt;
       before = λ forms. tt;
       none_goes_on = tt;

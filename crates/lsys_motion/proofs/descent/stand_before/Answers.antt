@@ -12,9 +12,9 @@ down-preserved g c =
     let first : c.down.rest.now ≡ c.in-Some.piece.now ∷ c.in-Some.inner.now = search rules in
     let is = first ∙ ap (λ (q : ImagePiece). q ∷ c.in-Some.inner.now) (sym c.piece.view_is) in
     let past : nat_lt c.down.left p.symbols ≡ false = ap (λ (q : ImagePiece). nat_lt c.down.left q.symbols) c.piece.view_is ∙ sym c.holds.ensures ∙ c.if-holds.false in
-    let rest = c.behind-rest.ensures ∙ ap (λ n. drop n c.in-Some.inner.now) c.saturating_sub.ensures in
+    let rest = c.after-rest.ensures ∙ ap (λ n. drop n c.in-Some.inner.now) c.saturating_sub.ensures in
     record {
-      found = found_skips l c.down.rest.now p qs c.behind-rest.result.now c.down.left c.down.here is past rest ∙ c.down.invariant.found;
+      found = found_skips l c.down.rest.now p qs c.after-rest.result.now c.down.left c.down.here is past rest ∙ c.down.invariant.found;
       near = c.down.invariant.near;
-      near_to = near_skips l c.down.rest.now p qs c.behind-rest.result.now c.down.left c.down.here is past rest c.down.invariant.near_to;
+      near_to = near_skips l c.down.rest.now p qs c.after-rest.result.now c.down.left c.down.here is past rest c.down.invariant.near_to;
     }

@@ -6,7 +6,7 @@ use Rattle.lsys_hom.specs.Looks.{IsNextLook}
 use Rattle.lsys_hom.specs.Coming.{Coming, coming}
 use Rattle.lsys_out.specs.Drawings.{last_image}
 use Rattle.lsys_out.specs.Nesting.{image_nesting, nesting_from}
-use Rattle.lsys_out.proofs.Going.{few_begin, nested_behind}
+use Rattle.lsys_out.proofs.Going.{few_begin, nested_after}
 use Rattle.lsys_out.proofs.Looking.{saved_few, short_saved}
 use Rattle.lsys_turtle.specs.Ways.{saved_after}
 use Rattle.lsys_out.proofs.nesting.image_nesting.Goals as goal
@@ -24,8 +24,8 @@ loop-seen-init g c =
       few = few_begin s levels i is;
     }
 
-pub open_behind-open-requires : goal.open_behind-open-requires
-open_behind-open-requires g c =
+pub open_after-open-requires : goal.open_after-open-requires
+open_after-open-requires g c =
     let l = c.loop-seen in
     let new = c.look.new.self in
     let next : IsNextLook l.image new (Ok (Some c.in-Some.seen)) = subst (λ o. IsNextLook l.image new (Ok o)) c.in-Some.is c.in_ok-seen.ensures in
@@ -39,14 +39,14 @@ loop-seen-preserved g c =
     let x = next.0 in
     let is : l.image.symbols ≡ x ∷ new.symbols = ap (λ (i : Coming). i.symbols) next.2 in
     let n = image_nesting c.args.system.now (g.W.LevelView.levels c.args.view.now) in
-    let behind : c.open_behind-open.result ≡ saved_after x l.open = c.open_behind-open.ensures ∙ ap (λ y. saved_after y l.open) next.1 ∙ short_saved x l.open in
-    let most : c.max-most.result ≡ max l.most c.open_behind-open.result = c.max-most.ensures in
+    let after : c.open_after-open.result ≡ saved_after x l.open = c.open_after-open.ensures ∙ ap (λ y. saved_after y l.open) next.1 ∙ short_saved x l.open in
+    let most : c.max-most.result ≡ max l.most c.open_after-open.result = c.max-most.ensures in
     record {
-      most = subst (λ m. max m (nesting_from c.open_behind-open.result new.symbols) ≡ n) (sym most)
-          (subst (λ k. max (max l.most k) (nesting_from k new.symbols) ≡ n) (sym behind) (nested_behind x l.most l.open n l.image.symbols new.symbols is l.invariant.most l.invariant.below));
+      most = subst (λ m. max m (nesting_from c.open_after-open.result new.symbols) ≡ n) (sym most)
+          (subst (λ k. max (max l.most k) (nesting_from k new.symbols) ≡ n) (sym after) (nested_after x l.most l.open n l.image.symbols new.symbols is l.invariant.most l.invariant.below));
       below = omega (arith, most);
       refusal = sym (ap (λ (i : Coming). i.refusal) next.2) ∙ l.invariant.refusal;
-      few = omega (arith, l.invariant.few, ap length is, behind, saved_few x l.open);
+      few = omega (arith, l.invariant.few, ap length is, after, saved_few x l.open);
     }
 
 pub returns-in_err-seen : goal.returns-in_err-seen

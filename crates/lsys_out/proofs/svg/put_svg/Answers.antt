@@ -6,7 +6,7 @@ use Rattle.lsys_out.specs.Boxes.{box_of}
 use Rattle.lsys_out.specs.Drawings.{Drawing, IsNextSegment, drawing, last_drawing, with_first}
 use Rattle.lsys_out.specs.Lines.{drawn_line}
 use Rattle.lsys_out.proofs.Resting.{rests_failed, rests_same, rests_then, rests_whole}
-use Rattle.lsys_out.proofs.Texts.{lines-behind, svg-text}
+use Rattle.lsys_out.proofs.Texts.{lines-after, svg-text}
 use Rattle.lsys_out.proofs.svg.put_svg.Goals as goal
 
 pub returns-in_err-put_head-clause-put : goal.returns-in_err-put_head-clause-put
@@ -34,7 +34,7 @@ returns-in_err-put_line-in-Ok-Some-clause-put g c =
     let next = drawing l c.next.new.self c.next.new.turtle.turtle in
     let first : now ≡ with_first (segment_of c.in-Ok-Some.segment) next = subst (λ o. IsNextSegment now next (Ok o)) c.in-Ok-Some.field-0-is c.in-Ok-Some.ensures.next in
     rests_failed (flat_map (drawn_line l) next.segments ++ codes "</svg>\n") c.from_residual-in_err-put_line-in-Ok-Some.ensures.0
-    (rests_same (lines-behind l now (segment_of c.in-Ok-Some.segment) next first) c.segments.invariant.rests) c.in_err-put_line-in-Ok-Some.ensures
+    (rests_same (lines-after l now (segment_of c.in-Ok-Some.segment) next first) c.segments.invariant.rests) c.in_err-put_line-in-Ok-Some.ensures
 
 pub segments-preserved : goal.segments-preserved
 segments-preserved g c =
@@ -43,7 +43,7 @@ segments-preserved g c =
     let next = drawing l c.next.new.self c.next.new.turtle.turtle in
     let first : now ≡ with_first (segment_of c.in-Ok-Some.segment) next = subst (λ o. IsNextSegment now next (Ok o)) c.in-Ok-Some.field-0-is c.in-Ok-Some.ensures.next in
     record {
-      rests = rests_then (rests_same (lines-behind l now (segment_of c.in-Ok-Some.segment) next first) c.segments.invariant.rests) c.in_ok-put_line-in-Ok-Some.ensures;
+      rests = rests_then (rests_same (lines-after l now (segment_of c.in-Ok-Some.segment) next first) c.segments.invariant.rests) c.in_ok-put_line-in-Ok-Some.ensures;
       drawn = ap (λ (d : Drawing). d.refusal) (sym first) ∙ c.segments.invariant.drawn;
       can_go = search rules;
       room = search rules;

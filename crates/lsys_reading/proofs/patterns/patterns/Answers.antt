@@ -27,7 +27,7 @@ symbols-preserved c =
     let read : IsSymbolRead st ks c.symbols.end (Ok (Some c.in-Some.read)) = subst (λ o. IsSymbolRead st ks c.symbols.end (Ok o)) c.in-Some.is h.read in
     let place : (c.symbols.end < c.in-Some.read.end) × (c.in-Some.read.end ≤ size c.args.line.now) = subst (λ o. IfSome o (λ x. (c.symbols.end < x.end) × (x.end ≤ size c.args.line.now))) c.in-Some.is h.place in
     let pushed : c.push.new.self.items ≡ xs ++ c.in-Some.read.symbol ∷ [] = search rules in
-    rw (pushed, c.branches_behind-branches.ensures) (patterns-more c.args.section ks c.args.at c.symbols.end xs c.symbols.branches c.is_empty.result c.symbols.invariant
+    rw (pushed, c.branches_after-branches.ensures) (patterns-more c.args.section ks c.args.at c.symbols.end xs c.symbols.branches c.is_empty.result c.symbols.invariant
     (first-symbol c.is_empty.result xs none) c.in-Some.read read place.0 (omega (arith, place.1, length-kinds c.args.line.now.tokens.items)))
 
 pub returns-in_default-clause-place : goal.returns-in_default-clause-place

@@ -5,7 +5,7 @@ use Rattle.lsys_forest.specs.Rows.{kids_in, level_of_node, place_of_node}
 use Rattle.lsys_forest.proofs.SoundLemmas.{some_of}
 use Rattle.lsys_forest.proofs.RowLemmas.{In_append, level_apart}
 use Rattle.lsys_reads.proofs.SeamLemmas.{in_left, in_right}
-use Rattle.lsys_reads.proofs.AddedLemmas.{kid_below, first_below, last_below, spot_split, part_before, part_behind}
+use Rattle.lsys_reads.proofs.AddedLemmas.{kid_below, first_below, last_below, spot_split, part_before, part_after}
 use Rattle.lsys_reads.proofs.seams.around.Goals as goal
 
 pub returns-clause-looks : goal.returns-clause-looks
@@ -15,7 +15,7 @@ returns-clause-looks g c =
       children = λ k h. c.in_ok-add-2.ensures.keeps k (c.in_ok-add.ensures.keeps k (subst (In k) (sym c.in_ok-extend_from_slice.ensures.items)
           (in_right c.args.looked.now.items c.children.result.now k (subst (In k) (ap kids_in n.1 ∙ sym (c.children.ensures.kids n.0 n.1)) h))));
       before = λ k left right apart whole last. c.in_ok-add-2.ensures.keeps k (c.in_ok-add.ensures.added k (c.last_before.ensures left right apart whole ∙ last));
-      behind = λ k left right apart whole first. c.in_ok-add-2.ensures.added k (c.first_behind.ensures left right apart whole ∙ first);
+      after = λ k left right apart whole first. c.in_ok-add-2.ensures.added k (c.first_after.ensures left right apart whole ∙ first);
     }
 
 pub returns-clause-keeps : goal.returns-clause-keeps
@@ -30,7 +30,7 @@ returns-clause-below g c =
     let apart = level_apart f.root (changes_in f) (now_of f) c.children.ensures.sound (level_of_node f q) in
     let place = place_of_node f q in
     λ t on k h. elim (c.in_ok-add-2.ensures.only k h) [
-      | inr e ↦ inr (first_below f t q k s.after on (part_behind f q place s) (sym (c.first_behind.ensures s.before s.after apart s.whole) ∙ e))
+      | inr e ↦ inr (first_below f t q k s.after on (part_after f q place s) (sym (c.first_after.ensures s.before s.after apart s.whole) ∙ e))
       | inl h ↦ elim (c.in_ok-add.ensures.only k h) [
         | inr e ↦ inr (last_below f t q k s.before on (part_before f q place s) (sym (c.last_before.ensures s.before s.after apart s.whole) ∙ e))
         | inl h ↦ elim (In_append c.args.looked.now.items c.children.result.now k (subst (In k) c.in_ok-extend_from_slice.ensures.items h)) [

@@ -2,7 +2,7 @@ use Rattle.std.proofs.Common.{◌≡◌, ◌<◌, length, ◌∙◌, ap, sym, fa
 use Rattle.std.proofs.lemmas.List.{length-map}
 use Rattle.std.specs.Prelude.{slice_index_or}
 use Rattle.lsys_module.specs.Views.{symbol_of, string_of}
-use Rattle.lsys_rewrite.specs.Cutting.{marked, symbol_stays, cutting_behind}
+use Rattle.lsys_rewrite.specs.Cutting.{marked, symbol_stays, next_cutting}
 use Rattle.lsys_rewrite.proofs.CutPlaces.{stayed, passed, ended, marks_kept, left_by_cut}
 use Rattle.lsys_rewrite.proofs.cutting.cut.Goals.{then-is_kept, else-is_kept}
 use Rattle.lsys_rewrite.proofs.cutting.cut.Goals as goal
@@ -14,11 +14,11 @@ loop-place-preserved c =
     let s = c.index-symbols-place.result in
     let here : w.place < length old = search rules in
     let is : c.stays-is_kept.result ≡ symbol_stays w.cutting (symbol_of s) = search rules in
-    let goes_on : c.cutting_behind-cutting.result ≡ cutting_behind w.cutting (symbol_of s) = search rules in
+    let goes_on : c.next_cutting-cutting.result ≡ next_cutting w.cutting (symbol_of s) = search rules in
     elim c.if-is_kept.branch [
-      | then-is_kept b ↦ stayed old w.symbols w.kept w.place w.len w.cutting s w.invariant here (search rules) c.stays-is_kept.result c.if-is_kept.symbols c.if-is_kept.len c.cutting_behind-cutting.result is goes_on
+      | then-is_kept b ↦ stayed old w.symbols w.kept w.place w.len w.cutting s w.invariant here (search rules) c.stays-is_kept.result c.if-is_kept.symbols c.if-is_kept.len c.next_cutting-cutting.result is goes_on
           b.if-is_kept.true (search rules) (search rules)
-      | else-is_kept b ↦ passed old w.symbols w.kept w.place w.len w.cutting s w.invariant here (search rules) c.stays-is_kept.result c.if-is_kept.symbols c.if-is_kept.len c.cutting_behind-cutting.result is goes_on
+      | else-is_kept b ↦ passed old w.symbols w.kept w.place w.len w.cutting s w.invariant here (search rules) c.stays-is_kept.result c.if-is_kept.symbols c.if-is_kept.len c.next_cutting-cutting.result is goes_on
           b.if-is_kept.false (search rules) (search rules)
     ]
 

@@ -4,7 +4,7 @@ use Rattle.std.proofs.lemmas.Grind.{take-set_at, common_steps}
 use mir.Val.{to_z, of_z}
 use Rattle.lsys_spec.specs.Values.{value}
 use Rattle.lsys_spec.specs.Meaning.{filled_params}
-use Rattle.lsys_rewrite.proofs.Behind.{behind, drop_item}
+use Rattle.lsys_rewrite.proofs.After.{after, drop_item}
 use Rattle.lsys_rewrite.proofs.Successors.{params_more}
 use Rattle.lsys_bodies.specs.Views.{tree_in}
 use Rattle.lsys_rewrite.proofs.filling.fill_params.Goals as goal
@@ -21,6 +21,6 @@ loop-place-preserved c =
     record {
       told =
           rw (kept, front) (sym (params_more (take i c.loop-place.values) e.tree (map tree_in (drop (i + 1) c.args.params.now)) c.args.bound.now z told)
-          ∙ ap (λ es. behind (take i c.loop-place.values) (filled_params (map tree_in es) c.args.bound.now)) (sym rest) ∙ c.loop-place.invariant.told);
+          ∙ ap (λ es. after (take i c.loop-place.values) (filled_params (map tree_in es) c.args.bound.now)) (sym rest) ∙ c.loop-place.invariant.told);
       places = grind (arith, common_steps);
     }

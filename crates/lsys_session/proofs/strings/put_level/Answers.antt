@@ -2,7 +2,7 @@ use Rattle.std.proofs.Common.{[], ◌∷◌, ◌++◌, refl, subst, ◌∙◌, r
 use Rattle.lsys_io.proofs.Puts.{puts_nothing, puts_then, puts_failed, puts_answering}
 use Rattle.lsys_syntax.specs.Strings.{value_pieces, ends_in_name}
 use Rattle.lsys_spec.specs.Levels.{plain}
-use Rattle.lsys_module.specs.Printing.{symbols_behind}
+use Rattle.lsys_module.specs.Printing.{symbols_after}
 use Rattle.lsys_level.specs.Spots.{spots_at, level_by}
 use Rattle.lsys_level.specs.Views.{seen_of}
 use Rattle.lsys_level.proofs.Copies.{Copying, copied_on}
@@ -37,7 +37,7 @@ returns-in_err-runs_on g c =
     let put = c.loop-at.invariant in
     let here : Copying level_of place_of (spots_at levels c.args.level) c.args.level (Some c.in-Some.spot) put.symbols = subst (λ at. Copying level_of place_of (spots_at levels c.args.level) c.args.level at put.symbols) c.in-Some.is put.copying in
     rw (cut_short level_of place_of levels c.args.level c.in-Some.spot put.symbols sight c.loop-at.runs_on here c.sight-sight.ensures.seen put.runs)
-    (puts_failed (symbols_behind value_pieces (ends_in_name (symbol_seen sight)) (map plain (level_by (λ tag. []) (drop (suc (length put.symbols)) (spots_at levels c.args.level)))))
+    (puts_failed (symbols_after value_pieces (ends_in_name (symbol_seen sight)) (map plain (level_by (λ tag. []) (drop (suc (length put.symbols)) (spots_at levels c.args.level)))))
     c.from_residual.ensures.0 (puts_then put.put c.in_err-runs_on.ensures.put))
 
 pub returns : goal.returns

@@ -20,7 +20,7 @@ returns-in-Some-clause-passed c =
     ap (first_token (mode_of c.args.cursor.mode)) (sym (part-from (c.args.cursor.place + c.blanks_len.result) c.args.line.now)) ∙ sym c.token_at.ensures.token ∙ ap (option_map lexeme_of) c.in-Some.is in (
       _,
       step-token (mode_of c.args.cursor.mode) c.args.line.now c.args.cursor.place c.blanks_len.result (kind_of c.in-Some.lexeme.kind) c.in-Some.lexeme.more blanks found
-          ∙ same-rest _ _ _ _ _ c.args.line.now (sym c.mode_behind.ensures) (omega arith),
+          ∙ same-rest _ _ _ _ _ c.args.line.now (sym c.mode_after.ensures) (omega arith),
     )
 
 pub returns-in-None-clause-passed : goal.returns-in-None-clause-passed

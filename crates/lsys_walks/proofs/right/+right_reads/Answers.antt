@@ -70,8 +70,8 @@ right_reads-returns-in-TooFar g t c =
     (c.in_ok-inner_reads-in-Push.was ∙ ap (λ v. Ok v) c.in-TooFar.is) c.inner_reads.ensures.told in
     record { told = λ naming. walk_inner_far _ _ _ _ naming (w naming) (c.is_wanted.ensures.wanted c.loop-mark-test.true) (seen_at st c.in-Push.ensures.seen c.tag-tag.ensures.tag) m (c.in_ok-note-in-Push.ensures.added ∙ ap (λ n. c.loop-mark.trace.read ++ n ∷ []) c.branch-mark.ensures.noted) c.inner_reads.new.trace.read (h naming); refused = λ naming. tt; few = tt; front = front_on c.args.bound.now.items c.loop-mark.bound.items c.inner_reads.new.bound.items c.loop-mark.invariant.5 c.inner_reads.ensures.front; counted = omega (arith, c.note.ensures.counted, c.inner_reads.ensures.counted, c.loop-mark.invariant.6); same = c.inner_reads.ensures.same ∙ c.note.ensures.old ∙ c.loop-mark.invariant.7 }
 
-pub right_reads-behind-next-requires : goal.right_reads-behind-next-requires
-right_reads-behind-next-requires g t c =
+pub right_reads-after-next-requires : goal.right_reads-after-next-requires
+right_reads-after-next-requires g t c =
     c.in_ok-inner_reads-in-Push.ensures.branch c.in-Found.is
 
 pub right_reads-loop-mark-preserved-in-Found : goal.right_reads-loop-mark-preserved-in-Found
@@ -83,7 +83,7 @@ right_reads-loop-mark-preserved-in-Found g t c =
     (c.in_ok-inner_reads-in-Push.was ∙ ap (λ v. Ok v) c.in-Found.is) c.inner_reads.ensures.told in
     let on = stands_beside st c.mate-mate.result c.mate-mate.ensures.level m.within in
     let r : length c.inner_reads.new.trace.read ≤ most_entries = omega (arith, (h (λ t. [])).1, length-map c.inner_reads.new.trace.read (entry_by (λ t. []))) in
-    (moved_at on c.right-at-in-Push.result c.right-at-in-Push.ensures, omega (arith, c.loop-mark.invariant.1, c.behind-next.ensures.later), c.behind-next.ensures.within, r, λ naming. walk_to _ _ _ _ naming (walk_found _ _ _ _ naming (w naming) (c.is_wanted.ensures.wanted c.loop-mark-test.true) (seen_at st c.in-Push.ensures.seen c.tag-tag.ensures.tag) m (c.in_ok-note-in-Push.ensures.added ∙ ap (λ n. c.loop-mark.trace.read ++ n ∷ []) c.branch-mark.ensures.noted) c.inner_reads.new.trace.read c.behind-next.result c.inner_reads.new.bound.items c.behind-next.ensures.branch (h naming)) _ (moved_to on c.right-at-in-Push.result c.right-at-in-Push.ensures), front_on c.args.bound.now.items c.loop-mark.bound.items c.inner_reads.new.bound.items c.loop-mark.invariant.5 c.inner_reads.ensures.front, omega (arith, c.note.ensures.counted, c.inner_reads.ensures.counted, c.loop-mark.invariant.6), c.inner_reads.ensures.same ∙ c.note.ensures.old ∙ c.loop-mark.invariant.7)
+    (moved_at on c.right-at-in-Push.result c.right-at-in-Push.ensures, omega (arith, c.loop-mark.invariant.1, c.after-next.ensures.later), c.after-next.ensures.within, r, λ naming. walk_to _ _ _ _ naming (walk_found _ _ _ _ naming (w naming) (c.is_wanted.ensures.wanted c.loop-mark-test.true) (seen_at st c.in-Push.ensures.seen c.tag-tag.ensures.tag) m (c.in_ok-note-in-Push.ensures.added ∙ ap (λ n. c.loop-mark.trace.read ++ n ∷ []) c.branch-mark.ensures.noted) c.inner_reads.new.trace.read c.after-next.result c.inner_reads.new.bound.items c.after-next.ensures.branch (h naming)) _ (moved_to on c.right-at-in-Push.result c.right-at-in-Push.ensures), front_on c.args.bound.now.items c.loop-mark.bound.items c.inner_reads.new.bound.items c.loop-mark.invariant.5 c.inner_reads.ensures.front, omega (arith, c.note.ensures.counted, c.inner_reads.ensures.counted, c.loop-mark.invariant.6), c.inner_reads.ensures.same ∙ c.note.ensures.old ∙ c.loop-mark.invariant.7)
 
 pub right_reads-loop-mark-preserved-in-Missed : goal.right_reads-loop-mark-preserved-in-Missed
 right_reads-loop-mark-preserved-in-Missed g t c =

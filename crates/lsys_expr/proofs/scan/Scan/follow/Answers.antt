@@ -59,8 +59,8 @@ pub returns-in-Closing : goal.returns-in-Closing
 returns-in-Closing c = λ s t h b.
     let ls = c.args.self.now.levels in
     let seen = seen-as c.args.self.now.awaited Operator ls s c.requires h in
-    let behind : IsSeen Operator (drop 1 ls) (step s t) = close-inside ls s t seen (follows-as c.args.follow follow.Closing t c.in-Closing.is b) (sym c.is_inside.ensures ∙ c.if-is_inside.true) in
-    kept-as c.args.self.now.awaited Operator c.close_parenthesis.new.self (drop 1 ls) (step s t) c.requires c.close_parenthesis.ensures.levels behind c.close_parenthesis.ensures.within
+    let after : IsSeen Operator (drop 1 ls) (step s t) = close-inside ls s t seen (follows-as c.args.follow follow.Closing t c.in-Closing.is b) (sym c.is_inside.ensures ∙ c.if-is_inside.true) in
+    kept-as c.args.self.now.awaited Operator c.close_parenthesis.new.self (drop 1 ls) (step s t) c.requires c.close_parenthesis.ensures.levels after c.close_parenthesis.ensures.within
 
 pub returns-in-Closing-2 : goal.returns-in-Closing-2
 returns-in-Closing-2 c = λ s t h b.

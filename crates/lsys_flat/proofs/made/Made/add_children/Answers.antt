@@ -24,7 +24,7 @@ loop-symbol-preserved c =
     record {
       numbering = search rules;
       added = one_added (numbering_of c.args.numbers.now.numbering) c.self.inside.parents c.args.key c.args.successor.now _ place c.loop-symbol.numbers c.next.new.self c.loop-symbol.self c.add_child.new.self c.symbol-item.result c.in_ok-origin.origin
-          c.loop-symbol.invariant.added there (rw same at c.in_ok-origin.ensures.origin) c.in_ok-origin.ensures.behind c.in_ok-add_child.ensures.added;
+          c.loop-symbol.invariant.added there (rw same at c.in_ok-origin.ensures.origin) c.in_ok-origin.ensures.after c.in_ok-add_child.ensures.added;
       depth = search rules;
       parents = search rules;
       room = search rules;

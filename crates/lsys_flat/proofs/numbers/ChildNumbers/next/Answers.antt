@@ -5,5 +5,5 @@ use Rattle.lsys_flat.proofs.numbers.ChildNumbers.next.Goals as goal
 pub overflow_add-count : goal.overflow_add-count
 overflow_add-count c = grind (arith, common_steps)
 
-pub returns-in_ok-insert-in-Names-clause-behind : goal.returns-in_ok-insert-in-Names-clause-behind
-returns-in_ok-insert-in-Names-clause-behind c = grind (arith, common_steps)
+pub returns-in_ok-insert-in-Names-clause-after : goal.returns-in_ok-insert-in-Names-clause-after
+returns-in_ok-insert-in-Names-clause-after c = grind (arith, common_steps)

@@ -14,7 +14,7 @@ invariant_of-self-in_err-reserve-2 g c =
     record {
       params = p.owned;
       kids = c.self.invariant.kids;
-      stock = subst (λ (x : List (List ℤ)). IsStock c.reserve.new.self.notes x (map (run_list i.kids.pool) i.kids.past)) (sym p.behind) stock;
+      stock = subst (λ (x : List (List ℤ)). IsStock c.reserve.new.self.notes x (map (run_list i.kids.pool) i.kids.past)) (sym p.after) stock;
     }
 
 pub invariant_of-self-2 : goal.invariant_of-self-2
@@ -26,7 +26,7 @@ invariant_of-self-2 g c =
     record {
       params = p.owned;
       kids = q.owned;
-      stock = subst (λ (y : List (List ℕ)). IsStock c.reserve.new.self.notes (map (run_list c.reserve-2.new.self.pool) c.reserve-2.new.self.past) y) (sym q.behind) (subst (λ (x : List (List ℤ)). IsStock c.reserve.new.self.notes x (map (run_list i.kids.pool) i.kids.past)) (sym p.behind) stock);
+      stock = subst (λ (y : List (List ℕ)). IsStock c.reserve.new.self.notes (map (run_list c.reserve-2.new.self.pool) c.reserve-2.new.self.past) y) (sym q.after) (subst (λ (x : List (List ℤ)). IsStock c.reserve.new.self.notes x (map (run_list i.kids.pool) i.kids.past)) (sym p.after) stock);
     }
 
 pub returns-clause-nodes : goal.returns-clause-nodes
@@ -66,7 +66,7 @@ returns-in_err-reserve-2-clause-keeps g c =
     let p = reserve_done i.params c.reserve-2.new.self i.table.param_runs c.reserve-2.ensures.kept c.reserve-2.ensures.pool c.self.invariant.params in
     subst (λ (t : Stock g.row.A.Denot). KeepsRoom t (stock_of i.table c.reserve-2.new.self i.kids c.reserve.new.self)) c.self.view_is (record {
       capacity = refl;
-      note_room = let l = ap length p.behind in omega (arith, l, c.reserve.ensures.more_room, c.reserve-2.ensures.more_places);
+      note_room = let l = ap length p.after in omega (arith, l, c.reserve.ensures.more_room, c.reserve-2.ensures.more_places);
       param_room = c.reserve-2.ensures.more_spare;
       kid_room = omega arith;
     })
@@ -78,7 +78,7 @@ returns-clause-keeps g c =
     let q = reserve_done i.kids c.reserve-3.new.self i.table.kid_runs c.reserve-3.ensures.kept c.reserve-3.ensures.pool c.self.invariant.kids in
     subst (λ (t : Stock g.row.A.Denot). KeepsRoom t (stock_of i.table c.reserve-2.new.self c.reserve-3.new.self c.reserve.new.self)) c.self.view_is (record {
       capacity = refl;
-      note_room = let l = ap length p.behind in let m = ap length q.behind in omega (arith, l, m, c.reserve.ensures.more_room, c.reserve-2.ensures.more_places, c.reserve-3.ensures.more_places);
+      note_room = let l = ap length p.after in let m = ap length q.after in omega (arith, l, m, c.reserve.ensures.more_room, c.reserve-2.ensures.more_places, c.reserve-3.ensures.more_places);
       param_room = c.reserve-2.ensures.more_spare;
       kid_room = c.reserve-3.ensures.more_spare;
     })

@@ -30,12 +30,12 @@ pub invariant_of-self : goal.invariant_of-self
 invariant_of-self g c =
     let i = c.self.inside in
     let e = c.swap_kids.ensures in
-    let behind = ap (λ (s : Shelf ℕ). s.past) e.swapped.swapped in
+    let after = ap (λ (s : Shelf ℕ). s.past) e.swapped.swapped in
     let params = ap (λ (x : SlotTable g.row.A.Denot). x.param_runs) e.table in
     record {
       params = subst (λ r. IsOwner i.params r) (sym params) c.self.invariant.params;
       kids = e.owned;
-      stock = IsStock-note i.journal.notes c.push_bare.new.self.notes _ (map (run_list i.params.pool) i.params.past) (map (run_list i.params.pool) i.params.past) (map (run_list i.kids.pool) i.kids.past) (map (run_list c.swap_kids.new.lists.pool) c.swap_kids.new.lists.past) c.push_bare.ensures.pushed (omega arith) (ap length behind ∙ length_push (map (run_list i.kids.pool) i.kids.past) _) c.self.invariant.stock;
+      stock = IsStock-note i.journal.notes c.push_bare.new.self.notes _ (map (run_list i.params.pool) i.params.past) (map (run_list i.params.pool) i.params.past) (map (run_list i.kids.pool) i.kids.past) (map (run_list c.swap_kids.new.lists.pool) c.swap_kids.new.lists.past) c.push_bare.ensures.pushed (omega arith) (ap length after ∙ length_push (map (run_list i.kids.pool) i.kids.past) _) c.self.invariant.stock;
     }
 
 pub returns : goal.returns
@@ -49,7 +49,7 @@ returns g c =
     let params = map (run_list i.params.pool) i.table.param_runs in
     let kids = map (run_list i.kids.pool) i.table.kid_runs in
     let past = map (run_list i.params.pool) i.params.past in
-    let behind = ap (λ (s : Shelf ℕ). s.past) e.swapped.swapped in
+    let after = ap (λ (s : Shelf ℕ). s.past) e.swapped.swapped in
     subst (λ (t : Stock g.row.A.Denot). (n : Node g.row.A.Denot) → nodes_of t k ≡ Some n → Journals t (stock_of t' i.params q' ns) k (Some (with_kids c.args.kids.now n)) (OldKids n.kids) 0 0 (list_room c.args.kids.now)) c.self.view_is
     (λ n is. record {
       nodes =
@@ -58,13 +58,13 @@ returns g c =
       noted =
           let same = kids_were i.table.slots params kids k n is in
           ap (λ ns. changes_told ns past (map (run_list q'.pool) q'.past)) c.push_bare.ensures.pushed
-          ∙ ap (changes_told (i.journal.notes ++ record { node = k; was = was.Kids } ∷ []) past) behind
+          ∙ ap (changes_told (i.journal.notes ++ record { node = k; was = was.Kids } ∷ []) past) after
           ∙ told_kid i.journal.notes (record { node = k; was = was.Kids }) past (map (run_list i.kids.pool) i.kids.past) (row_at kids k) c.self.invariant.stock.past_params_long c.self.invariant.stock.past_kids_long
           ∙ ap (λ x. changes_told i.journal.notes past (map (run_list i.kids.pool) i.kids.past) ++ record { node = k; before = OldKids x } ∷ []) same;
       notes = ap length c.push_bare.ensures.pushed ∙ length_push i.journal.notes _;
       live = let same = ap (λ (x : SlotTable g.row.A.Denot). x.slots) e.table in let l = ap live_slots same in omega (arith, l);
       capacity = ap (λ (x : SlotTable g.row.A.Denot). x.capacity) e.table;
-      note_room = let l = ap length behind in let m = length_push (map (run_list i.kids.pool) i.kids.past) (row_at kids k) in omega (arith, c.push_bare.ensures.room, e.swapped.places, l, m);
+      note_room = let l = ap length after in let m = length_push (map (run_list i.kids.pool) i.kids.past) (row_at kids k) in omega (arith, c.push_bare.ensures.room, e.swapped.places, l, m);
       param_room = omega arith;
       kid_room = e.swapped.spare;
       hand = ap (λ (s : Shelf ℕ). s.hand) e.swapped.swapped;

@@ -47,11 +47,11 @@ invariant_of-self g c =
     let runs : c.swap_kind.new.self.param_runs ≡ i.table.param_runs = ap (λ (y : SlotTable g.row.A.Denot). y.param_runs) f in
     let is_table : t' ≡ record i.table { slots = change_slot (kind_set x) i.table.slots k; param_runs = t'.param_runs } = e.table ∙ ap (λ (y : SlotTable g.row.A.Denot). record y { param_runs = t'.param_runs }) f in
     let swapped : Swaps k c.params_of.result.now (shelf_of i.params i.table.param_runs) (shelf_of p' t'.param_runs) = subst (λ r. Swaps k c.params_of.result.now (shelf_of i.params r) (shelf_of p' t'.param_runs)) runs e.swapped in
-    let behind = ap (λ (s : Shelf ℤ). s.past) swapped.swapped in
+    let after = ap (λ (s : Shelf ℤ). s.past) swapped.swapped in
     record {
       params = e.owned;
       kids = subst (λ r. IsOwner i.kids r) (sym (ap (λ (y : SlotTable g.row.A.Denot). y.kid_runs) is_table)) c.self.invariant.kids;
-      stock = IsStock-note i.journal.notes c.push.new.self.notes _ (map (run_list i.params.pool) i.params.past) (map (run_list p'.pool) p'.past) (map (run_list i.kids.pool) i.kids.past) (map (run_list i.kids.pool) i.kids.past) c.push.ensures.pushed (ap length behind ∙ length_push (map (run_list i.params.pool) i.params.past) _) (omega arith) c.self.invariant.stock;
+      stock = IsStock-note i.journal.notes c.push.new.self.notes _ (map (run_list i.params.pool) i.params.past) (map (run_list p'.pool) p'.past) (map (run_list i.kids.pool) i.kids.past) (map (run_list i.kids.pool) i.kids.past) c.push.ensures.pushed (ap length after ∙ length_push (map (run_list i.params.pool) i.params.past) _) (omega arith) c.self.invariant.stock;
     }
 
 pub returns-clause-set : goal.returns-clause-set
@@ -73,7 +73,7 @@ returns-clause-set g c =
     let kids = map (run_list i.kids.pool) i.table.kid_runs in
     let past = map (run_list i.params.pool) i.params.past in
     let past_kids = map (run_list i.kids.pool) i.kids.past in
-    let behind = ap (λ (s : Shelf ℤ). s.past) swapped.swapped in
+    let after = ap (λ (s : Shelf ℤ). s.past) swapped.swapped in
     let comes = subst (λ m. ComesTo k m params (map (run_list p'.pool) t'.param_runs)) c.params_of.ensures.params swapped.comes in
     subst (λ (t : Stock g.row.A.Denot). (n : Node g.row.A.Denot) → nodes_of t k ≡ Some n → Journals t (stock_of t' p' i.kids ns) k (Some (with_seen (seen_in c.args.symbol.now) n)) (OldSeen n.seen) 0 (list_room l) 0) c.self.view_is
     (λ n is. record {
@@ -84,7 +84,7 @@ returns-clause-set g c =
       noted =
           let same = seen_was i.table.slots params kids k n c.in-Some.kind is c.in-Some.ensures.before in
           ap (λ ns. changes_told ns (map (run_list p'.pool) p'.past) past_kids) c.push.ensures.pushed
-          ∙ ap (λ ps. changes_told (i.journal.notes ++ record { node = k; was = was.Kind c.in-Some.kind } ∷ []) ps past_kids) behind
+          ∙ ap (λ ps. changes_told (i.journal.notes ++ record { node = k; was = was.Kind c.in-Some.kind } ∷ []) ps past_kids) after
           ∙ told_param i.journal.notes (record { node = k; was = was.Kind c.in-Some.kind }) past (row_at params k) past_kids c.self.invariant.stock.past_params_long c.self.invariant.stock.past_kids_long
           ∙ ap (λ y. changes_told i.journal.notes past past_kids ++ record { node = k; before = OldSeen y } ∷ []) same;
       notes = ap length c.push.ensures.pushed ∙ length_push i.journal.notes _;

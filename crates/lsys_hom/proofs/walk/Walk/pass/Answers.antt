@@ -7,7 +7,7 @@ use Rattle.lsys_hom.specs.Coming.{coming_from, symbol_image, coming_with}
 use Rattle.lsys_hom.specs.Parts.{symbols_of, IsSoundPart}
 use Rattle.lsys_hom.specs.Refusals.{refusal_of}
 use Rattle.lsys_hom.specs.Ways.{at, bare_level, symbols_from, with_part}
-use Rattle.lsys_hom.proofs.Passing.{behind, coming_passed, left_passed, right_rest}
+use Rattle.lsys_hom.proofs.Passing.{after, coming_passed, left_passed, right_rest}
 use Rattle.lsys_hom.proofs.walk.Walk.pass.Goals as goal
 
 pub returns-in-Err : goal.returns-in-Err
@@ -22,7 +22,7 @@ returns-in-Err g c =
     ap (λ w. w.coming) (sym c.self.view_is)
     ∙ ap (λ o. coming_from hs i.modules i.symbols (bare_level (symbols_from levels (at (g.W.LevelView.level_of i.view.now) (g.W.LevelView.place_of i.view.now) o)))) c.in-Some.is in
     let fault : symbol_image hs i.modules i.symbols (with_lineage [] v) ≡ Err (refusal_of c.in-Err.refusal) = search rules in
-    (was ∙ coming_passed hs i.modules i.symbols (spots_at levels t) p v c.sight-sight.ensures.seen ∙ ap (λ r. coming_with r (behind hs i.modules i.symbols v (drop (p + 1) (spots_at levels t)))) fault, refl)
+    (was ∙ coming_passed hs i.modules i.symbols (spots_at levels t) p v c.sight-sight.ensures.seen ∙ ap (λ r. coming_with r (after hs i.modules i.symbols v (drop (p + 1) (spots_at levels t)))) fault, refl)
 
 pub returns-in-Ok : goal.returns-in-Ok
 returns-in-Ok g c =
@@ -42,17 +42,17 @@ returns-in-Ok g c =
     let rest = right_rest (g.W.LevelView.level_of i.view.now) (g.W.LevelView.place_of i.view.now) levels t p c.right-self-inside.result c.right-self-inside.ensures in
     let image : symbol_image hs i.modules i.symbols (with_lineage [] v) ≡ Ok (symbols_of c.in-Ok.part) = search rules in
     let sound : IsSoundPart c.in-Ok.part = search rules in
-    let is = coming_passed hs i.modules i.symbols x p v c.sight-sight.ensures.seen ∙ ap (λ r. coming_with r (behind hs i.modules i.symbols v (drop (p + 1) x))) image in
+    let is = coming_passed hs i.modules i.symbols x p v c.sight-sight.ensures.seen ∙ ap (λ r. coming_with r (after hs i.modules i.symbols v (drop (p + 1) x))) image in
     let part = c.in-Ok.part in
     let counted =
-    ap (λ m. with_part part (coming_from hs m (i.symbols + length (symbols_of part)) (bare_level (drop (p + 1) x)))) (sym c.modules_behind-modules.ensures)
-    ∙ ap (λ l. with_part part (coming_from hs c.modules_behind-modules.result (i.symbols + l) (bare_level (drop (p + 1) x)))) (sym c.len.ensures)
-    ∙ ap (λ r. with_part part (coming_from hs c.modules_behind-modules.result (i.symbols + c.len.result) (bare_level r))) (sym rest) in
+    ap (λ m. with_part part (coming_from hs m (i.symbols + length (symbols_of part)) (bare_level (drop (p + 1) x)))) (sym c.modules_after-modules.ensures)
+    ∙ ap (λ l. with_part part (coming_from hs c.modules_after-modules.result (i.symbols + l) (bare_level (drop (p + 1) x)))) (sym c.len.ensures)
+    ∙ ap (λ r. with_part part (coming_from hs c.modules_after-modules.result (i.symbols + c.len.result) (bare_level r))) (sym rest) in
     let fewer = subst (λ n. length (drop (p + 1) x) < n) (sym left) (left_passed x p v c.sight-sight.ensures.seen) in
     (was ∙ is ∙ counted, subst (λ r. length r < c.args.self.now.left) (sym rest) fewer, sound)
 
-pub modules_behind-modules-requires : goal.modules_behind-modules-requires
-modules_behind-modules-requires g c = grind (arith, elements)
+pub modules_after-modules-requires : goal.modules_after-modules-requires
+modules_after-modules-requires g c = grind (arith, elements)
 
 pub part_of-requires-clause-modules : goal.part_of-requires-clause-modules
 part_of-requires-clause-modules g c = grind (arith, common_steps)

@@ -9,7 +9,7 @@ use Rattle.lsys_pass.specs.Passes.{PassView, stage_of, now_in}
 use Rattle.lsys_pass.specs.Moves.{SameRun}
 use Rattle.lsys_pass.specs.Advances.{symbols_wanted}
 use Rattle.lsys_pass.specs.Fresh.{WasAsked, row_of}
-use Rattle.lsys_pass.proofs.Coming.{from_behind, sizes_made, run_on, run_same, run_part}
+use Rattle.lsys_pass.proofs.Coming.{from_after, sizes_made, run_on, run_same, run_part}
 use Rattle.lsys_pass.proofs.pass.Pass.make_next.Goals as goal
 
 pub within_limit-requires-clause-asked : goal.within_limit-requires-clause-asked
@@ -32,7 +32,7 @@ make_level-requires-clause-symbols g c = c.in_ok-count.ensures.symbols ∙ ap (�
 
 pub returns-clause-origin : goal.returns-clause-origin
 returns-clause-origin g c =
-    from_behind c.count_next.new.self c.make_level.new.self c.args.level (subst (λ (v : PassView). WasAsked v c.args.level) (sym c.count_next.ensures.same) c.find_parents.ensures.asked) c.in_ok-make_level.ensures.goes
+    from_after c.count_next.new.self c.make_level.new.self c.args.level (subst (λ (v : PassView). WasAsked v c.args.level) (sym c.count_next.ensures.same) c.find_parents.ensures.asked) c.in_ok-make_level.ensures.goes
 
 pub returns-clause-sizes : goal.returns-clause-sizes
 returns-clause-sizes g c =

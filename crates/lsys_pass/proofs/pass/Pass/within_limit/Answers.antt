@@ -17,9 +17,9 @@ returns-then-symbols-room_under g c =
     let same = ap total_of c.deref.ensures.value in
     let room = c.room_under.ensures in
     let more = c.if-symbols-room_under.true in
-    let behind = c.requires.behind in
+    let after = c.requires.after in
     let over = subst (λ (v : PassView). v.limit < total_of v.made + c.args.symbols) c.self.view_is (omega (arith, same, room, more)) in
     record {
       within = tt;
-      refusal = (let same : c.args.level - 1 + 1 ≡ c.args.level = omega (arith, behind) in subst (λ t. meaning_to c.args.self.now.next c.args.self.now.limit t ≡ Err (OverLimit t)) same (over_asked c.args.self.now (c.args.level - 1) c.requires.asked c.args.symbols c.requires.symbols over));
+      refusal = (let same : c.args.level - 1 + 1 ≡ c.args.level = omega (arith, after) in subst (λ t. meaning_to c.args.self.now.next c.args.self.now.limit t ≡ Err (OverLimit t)) same (over_asked c.args.self.now (c.args.level - 1) c.requires.asked c.args.symbols c.requires.symbols over));
     }

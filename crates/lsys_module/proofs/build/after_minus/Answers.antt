@@ -1,6 +1,6 @@
 use Rattle.std.proofs.Common.{arith}
 use Rattle.std.proofs.lemmas.Grind.{common_steps}
-use Rattle.lsys_module.proofs.build.behind_minus.Goals as goal
+use Rattle.lsys_module.proofs.build.after_minus.Goals as goal
 
 pub returns : goal.returns
 returns c = grind (arith, common_steps)

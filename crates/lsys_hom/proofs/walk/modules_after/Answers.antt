@@ -1,6 +1,6 @@
 use Rattle.std.proofs.Common.{arith}
 use Rattle.std.proofs.lemmas.Grind.{elements}
-use Rattle.lsys_hom.proofs.walk.modules_behind.Goals as goal
+use Rattle.lsys_hom.proofs.walk.modules_after.Goals as goal
 
 pub returns-in_default : goal.returns-in_default
 returns-in_default c = grind (arith, elements)

@@ -3,8 +3,8 @@ use Rattle.std.specs.Prelude.{slice_get}
 use Rattle.lsys_bodies.specs.declared.body.Item.TheVariants.{Push, Pop}
 use Rattle.lsys_walks.proofs.Items.{Inside, inside_pattern, inside_push, inside_pop, branch_pop, branch_end}
 use Rattle.lsys_walks.proofs.Shown.{item_at}
-use Rattle.lsys_walks.proofs.item.behind.Goals.{in-Push, in-Pop+else-inside-eq0, in-Pattern}
-use Rattle.lsys_walks.proofs.item.behind.Goals as goal
+use Rattle.lsys_walks.proofs.item.after.Goals.{in-Push, in-Pop+else-inside-eq0, in-Pattern}
+use Rattle.lsys_walks.proofs.item.after.Goals as goal
 
 pub returns-then-inside-eq0-clause-branch : goal.returns-then-inside-eq0-clause-branch
 returns-then-inside-eq0-clause-branch c =

@@ -1,6 +1,6 @@
 use Rattle.std.proofs.Common.{arith}
 use Rattle.std.proofs.lemmas.Grind.{elements}
-use Rattle.lsys_rewrite.proofs.cutting.cutting_behind.Goals as goal
+use Rattle.lsys_rewrite.proofs.cutting.next_cutting.Goals as goal
 
 pub returns-in-None-Cut : goal.returns-in-None-Cut
 returns-in-None-Cut c = grind (arith, elements)

@@ -3,12 +3,12 @@ use Rattle.std.proofs.Common.{◌≡◌, ℕ, suc, ◌+◌, ◌<◌, Result, Ok,
 use Rattle.lsys_spec.specs.Values.{◌and_then◌}
 
 -- a front, and after it what was made
-abbrev pub behind : {A E : Type 0} → List A → Result (List A) E → Result (List A) E
-behind front r = r and_then λ more. Ok (front ++ more)
+abbrev pub after : {A E : Type 0} → List A → Result (List A) E → Result (List A) E
+after front r = r and_then λ more. Ok (front ++ more)
 
-pub behind_twice : {A E : Type 0} (a b : List A) (r : Result (List A) E) → behind a (behind b r) ≡ behind (a ++ b) r
-behind_twice a b (Ok x) = ap Ok (sym (append_assoc a b x))
-behind_twice a b (Err e) = refl
+pub after_twice : {A E : Type 0} (a b : List A) (r : Result (List A) E) → after a (after b r) ≡ after (a ++ b) r
+after_twice a b (Ok x) = ap Ok (sym (append_assoc a b x))
+after_twice a b (Err e) = refl
 
 pub drop_item : {A : Type 0} (xs : List A) (n : ℕ) (x : A) → n < length xs → x ≡ get_or xs n x → drop n xs ≡ x ∷ drop (n + 1) xs
 drop_item xs n x l e = rw add-one (drop-cons xs n x l ∙ ap (λ y. y ∷ drop (suc n) xs) (sym e))
