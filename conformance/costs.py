@@ -212,7 +212,7 @@ def as_it_is(lines: list[bytes], unit: bytes) -> list[bytes]:
 
 
 def with_a_letter_once(lines: list[bytes], unit: bytes) -> list[bytes]:
-    """The same with Z in the place of the A that is next behind the axiom's middle, and with a production of Z."""
+    """The same with Z in the place of the A that is next after the axiom's middle, and with a production of Z."""
     return [other_in_the_middle(lines[0], b"Z")] + lines[1:] + [b"production z: " + rule_of(b"Z", unit, b"Z")]
 
 
@@ -228,7 +228,7 @@ def first_of(unit: bytes) -> bytes:
 
 
 def other_in_the_middle(axiom: bytes, other: bytes = b"C") -> bytes:
-    """The axiom with the A that is next behind its middle written as another letter."""
+    """The axiom with the A that is next after its middle written as another letter."""
     at = axiom.index(b"A", len(axiom) // 2)
     return axiom[:at] + other + axiom[at + 1:]
 

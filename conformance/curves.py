@@ -63,7 +63,7 @@ def dragon(depth: int) -> Segments:
 
 
 def sierpinski(depth: int) -> Segments:
-    """Each ternary digit d turns by 1 - d, to the other side behind each digit that isn't 1."""
+    """Each ternary digit d turns by 1 - d, to the other side after each digit that isn't 1."""
     def heading(number: int) -> int:
         side, turned = 1, -(depth % 2)
         for digit in digits(number, 3, depth):

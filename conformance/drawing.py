@@ -72,7 +72,7 @@ def typing(trial: Trial) -> None:
 
 
 def typed_at_the_end(trial: Trial) -> None:
-    """Lines behind the others, a query below the text, and a line that is saved at once."""
+    """Lines after the others, a query below the text, and a line that is saved at once."""
     browser = trial.browser
     trial.caret_to(3, 10)
     browser.keys("Enter")
@@ -213,7 +213,7 @@ def plain(trial: Trial) -> None:
 
 
 def places(trial: Trial) -> None:
-    """A refusal within a line that takes several rows, and behind signs of several bytes."""
+    """A refusal within a line that takes several rows, and after signs of several bytes."""
     browser = trial.browser
     trial.begin("axiom %s$F\n" % ("F" * 300))
     trial.expect("it is refused", lambda page: page["refused"] and page["refused"][0].startswith("refused syntax byte 307"))

@@ -32,7 +32,7 @@ EXTENSION = os.path.join(TOP, "tools", "inkscape", "lsys_inkscape.py")
 PYTHON = "/usr/bin/python3"
 EMPTY = "<svg xmlns=\"http://www.w3.org/2000/svg\" width=\"210mm\" height=\"297mm\" viewBox=\"0 0 210 297\"/>\n"
 WRONG = "axiom F\nproduction f: F => F[+F\ndepth 2\n"
-TOLD = ("; line 2: refused syntax token 24: the `[` at column 21 isn't closed: a `]` is missing behind it\n    production f: F => F[+F\n            "
+TOLD = ("; line 2: refused syntax token 24: the `[` at column 21 isn't closed: a `]` is missing after it\n    production f: F => F[+F\n            "
         "               ^\n; %s is not written\n")
 ONE = "F-F++F-F"
 TOLD_INSIDE = "line 2: refused syntax token 24\n    production f: F => F[+F\N{CARET}"

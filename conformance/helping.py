@@ -313,21 +313,21 @@ def completing(trial: Trial) -> None:
 
 
 def completed_names(trial: Trial) -> None:
-    """Labels, tables and names, behind the words that they belong to."""
+    """Labels, tables and names, after the words that they belong to."""
     browser = trial.browser
     browser.keys("Control+ ")
     found = trial.seen(COMPLETIONS, bool)
-    trial.told("labels behind drop", found == ["grow label", "stop label"], found)
+    trial.told("labels after drop", found == ["grow label", "stop label"], found)
     browser.keys("Down", "Tab")
     expect(trial, "Tab takes one", lambda told: told["script"].split("\n")[4] == "drop stop")
     browser.run("lookPage.put([...lookPage.lines().slice(0, 4), 'schedule '], ''); lookPage.field.goTo(4, 9)")
     browser.keys("Control+ ")
-    trial.told("tables behind schedule", trial.seen(COMPLETIONS, bool) == ["main table", "winter table"], browser.run(COMPLETIONS))
+    trial.told("tables after schedule", trial.seen(COMPLETIONS, bool) == ["main table", "winter table"], browser.run(COMPLETIONS))
     browser.keys("Escape")
     browser.run("lookPage.put([...lookPage.lines().slice(0, 4), 'axiom A'], ''); lookPage.field.goTo(4, 7)")
     browser.keys("Control+ ")
     found = trial.seen(COMPLETIONS, bool)
-    trial.told("names behind axiom", found == ["A name"], found)
+    trial.told("names after axiom", found == ["A name"], found)
     browser.keys("Escape")
     trial.told("Escape closes the list", browser.run(COMPLETIONS) == [], browser.run(COMPLETIONS))
 

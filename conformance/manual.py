@@ -2,7 +2,7 @@
 
 usage: conformance/manual [--program PATH]
 
-In docs/LANGUAGE.md a block of code that is marked lsys is a script, and a block marked replies behind it is what the program
+In docs/LANGUAGE.md a block of code that is marked lsys is a script, and a block marked replies after it is what the program
 writes. Each command of the lists below has a section there with such a script, and each refusal and kind of fault a row in a
 table and a script that is answered so; each option and exit status is named. In docs/lsys.1 all of them are entries. The picture
 docs/gallery.svg of the README is what tools/gallery draws. And the syntax files of editors/ have the words of the language, which are
@@ -76,7 +76,7 @@ def missing_in_page(text: str) -> Iterator[str]:
 
 
 def words_of_language() -> tuple[set[str], set[str]]:
-    """The words that begin a command, and those that only stand behind one, by the definitions of commands and of a desk's lines."""
+    """The words that begin a command, and those that only stand after one, by the definitions of commands and of a desk's lines."""
     text, desk = read("../crates/lsys_syntax/specs/Commands.antt"), read("../crates/lsys_history/specs/Desks.antt")
     asked = re.findall(r"bytes_eq text \(codes \"(\w+)\"\)", desk)
     settings = set(re.findall(r"^(?:lattice|numbering)_word \S+ = codes \"(\w+)\"", text, re.M))

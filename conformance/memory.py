@@ -27,7 +27,7 @@ from programs import program_of
 from replies import Lines, commands_of, reply_from
 from telling import Words, give_up
 
-# Counts the calls that take memory; the call FAULT_AT fails, and with FAULT_ON all behind it. At the end it tells how many there were.
+# Counts the calls that take memory; the call FAULT_AT fails, and with FAULT_ON all after it. At the end it tells how many there were.
 SHIM = r"""
 #define _GNU_SOURCE
 #include <dlfcn.h>
@@ -78,7 +78,7 @@ LARGE = {
 
 
 class Harm(NamedTuple):
-    """What is done to a run: from which library calls fail, the allocation that does, whether all behind it do, the file that counts them,
+    """What is done to a run: from which library calls fail, the allocation that does, whether all after it do, the file that counts them,
     and how many megabytes there are."""
     shim: Optional[str] = None
     at: int = 0
@@ -138,7 +138,7 @@ def tried(program: str, shim: str, name: str, script: bytes, every: int, folder:
         found = list(pool.map(lambda trial: fault_of(program, script, Harm(shim, *trial)), trials))
     wrong = [(trial, fault) for trial, (fault, _) in zip(trials, found) if fault]
     for (at, on), fault in wrong[:5]:
-        print("%s: allocation %d%s: %s" % (name, at, " and all behind it" if on else "", fault))
+        print("%s: allocation %d%s: %s" % (name, at, " and all after it" if on else "", fault))
     print("%s: %d allocations, %d runs, %d with a refusal for want of memory, %d wrong"
           % (name, calls, len(trials), sum(lacks for _, lacks in found), len(wrong)), flush=True)
     return len(wrong)
@@ -186,7 +186,7 @@ def watched(program: str, edits: int) -> int:
         for _ in ROUND:
             reply = session.stdout.readline()
             if not reply:
-                give_up("the session ended behind %d edits" % ((count - 1) * len(ROUND)), 1)
+                give_up("the session ended after %d edits" % ((count - 1) * len(ROUND)), 1)
             told[0 if reply.startswith(b"ok") else 1 if reply.startswith(b"refused") else 2] += 1
         if count in marks:
             last = resident(session.pid)

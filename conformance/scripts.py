@@ -181,7 +181,7 @@ class Writer:
     # Each of the following gives a line.
 
     def text(self, head: str, tokens: list[str]) -> str:
-        """The tokens behind a head, with blanks where two would be read as one, and some more."""
+        """The tokens after a head, with blanks where two would be read as one, and some more."""
         text, last = head, " "
         for token in tokens:
             joined = (last in list("!<>=") and token[0] in "=>") or ("_" in last and token[0].isalnum())

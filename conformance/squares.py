@@ -51,7 +51,7 @@ def deep_row(size: int) -> Script:
 
 
 def contexts(size: int) -> Script:
-    """Right contexts of which each goes past what is nested behind its module."""
+    """Right contexts of which each goes past what is nested after its module."""
     return Script([b"production a: A > B => A", b"depth 8"], [b"axiom " + b"A[" * size + b"]B" * size], 9 * 4 * size)
 
 
@@ -61,7 +61,7 @@ def branches(size: int) -> Script:
 
 
 def rules(size: int) -> Script:
-    """Rules that are put one by one behind a derivation of some of their letters."""
+    """Rules that are put one by one after a derivation of some of their letters."""
     letters = b"ABCDEFGHIJKLMNOPQRSTUVWXYZabcdefghijklmnopqrstuvwxyz"
     formals = [b"x", b"x,y", b"x,y,z", b"x,y,z,u", b"x,y,z,u,v"]
 

@@ -62,7 +62,7 @@ def crate_jobs() -> list[Job]:
 
 
 def program_jobs() -> list[Job]:
-    """The checks of the program, which is named behind their words."""
+    """The checks of the program, which is named after their words."""
     return [Job("conformance/" + check, [os.path.join(TOP, "conformance", check.split()[0]), *check.split()[1:], "--program"]) for check in CHECKS]
 
 

@@ -6,7 +6,7 @@ usage: tools/dist [--program PATH] [--into FOLDER]
 
 Both packages hold the program, its manual page, the tools that need no toolchain (run, repl, look, export, the extension for Inkscape), the
 examples, their gallery page, README.md, CHANGELOG.md, the licences, docs/ and editors/. The version is the one of the file VERSION. A
-program other than the one that `make` or the gate has proved of these sources gets `+unproved` behind its version, and a package whose
+program other than the one that `make` or the gate has proved of these sources gets `+unproved` after its version, and a package whose
 texts claim nothing of proofs. The folder is build/ where none is given. What is installed goes below PREFIX, and the extension into the
 folder of Inkscape's extensions, all of it below the folder of --root where one is given.
 """

@@ -12,7 +12,7 @@ from collections.abc import Callable, Iterable, Iterator, Mapping, Sequence
 
 from replies import Caret, Lines, caret_below, commands_of, refusal, reply_from
 
-# A place of a lattice, what puts one into the plane or into space, a run so put, and what a refusal of a line means behind the edits before.
+# A place of a lattice, what puts one into the plane or into space, a run so put, and what a refusal of a line means after the edits before.
 Place = tuple[int, int, int]
 Put = Callable[[float, float, float], tuple[float, ...]]
 Drawn = tuple[int, list[tuple[float, ...]]]
@@ -136,7 +136,7 @@ def figure_in(reply: str, lattice: str) -> Figure:
 
 
 def asked(script: bytes, level: int | None) -> tuple[bytes, list[tuple[int, bytes]]]:
-    """The script that is sent, without the lines that only print and with the questions for the figure behind it, and its commands
+    """The script that is sent, without the lines that only print and with the questions for the figure after it, and its commands
     with their numbers."""
     commands = [(number, line) for number, line in commands_of(script) if line.split()[:1] == [] or not is_query(line)]
     last = [b"depth %d" % level] if level is not None else []
@@ -171,7 +171,7 @@ def figure_of(program: str, script: bytes, level: int | None = None, words: Sequ
 
 
 def number(value: float, places: int = 4) -> str:
-    """A number with at most so many places behind the point."""
+    """A number with at most so many places after the point."""
     text = ("%.*f" % (places, value)).rstrip("0").rstrip(".")
     return "0" if text == "-0" else text
 

@@ -29,7 +29,7 @@ NO_EZDXF = "this DXF has a line for each segment: polylines are written by ezdxf
 # A group whose first child this is keeps its script for Inkscape's extension too.
 SCRIPT_ID = "lsys-script"
 NO_XML = re.compile("[^\t\n\r -\ud7ff\ue000-\ufffd\U00010000-\U0010ffff]")
-# Places behind the point, of which a step has at least so many.
+# Places after the point, of which a step has at least so many.
 PLACES = 6
 # A line of a PNG is at least so many points wide, which is seen.
 LEAST_LINE = 0.6

@@ -2,7 +2,7 @@
 
 usage: tools/gallery [--program PATH] [--into FOLDER] [--sheet FILE]
 
-examples/gallery.txt has the order: a script's name a line, and headings behind a #. The page is plain HTML: contents with a small
+examples/gallery.txt has the order: a script's name a line, and headings after a #. The page is plain HTML: contents with a small
 picture of each script, and then each script with its pictures, the replies that are no pictures, and links to the files. It runs
 nothing. Without --program it is made by a program that is newer than its sources, a proved one where there is one. With --sheet
 only one picture is written, of twelve figures (those that end in * in examples/gallery.txt).

@@ -8,7 +8,7 @@ that breaks a goal without an answer costs each of them, and what the prover the
 libraries that `rt ci` left (as tools/proof_times does), takes the functions whose search takes S seconds (1, or what --slow says), and
 tries each of their goals by `search rules`, `grind (arith, common_steps)` and `grind (arith, elements)`, each in a module of its own. It
 lists the goals at which one of these saves S seconds (0.35, or what --gain says), with the answer. It takes two to three times as long
-as the crate's own check. --test takes the crate's tests too. --write writes the answers behind those that are there: check the crate
+as the crate's own check. --test takes the crate's tests too. --write writes the answers after those that are there: check the crate
 then, and its edits, since an edit that renames a goal may be refused only for an answer's name, which says nothing of it.
 """
 
@@ -74,7 +74,7 @@ def all_goals(crate: str, seed: str, room: str, tests: bool) -> dict[str, list[s
 
 
 class Trial:
-    """Modules that try the goals of functions, each by each tactic, with a mark behind each."""
+    """Modules that try the goals of functions, each by each tactic, with a mark after each."""
 
     def __init__(self, copy: str) -> None:
         self.copy = copy
@@ -152,7 +152,7 @@ def brought(text: str, module: str, words: list[str]) -> str:
 
 
 def write(crate: str, path: str, goal: str, tactic: str, kind: str, arguments: str) -> None:
-    """Writes an answer behind those of its function."""
+    """Writes an answer after those of its function."""
     file = os.path.join(folder_of(crate), "proofs", path, "Answers.antt")
     os.makedirs(os.path.dirname(file), exist_ok=True)
     text = "use Rattle.%s.proofs.%s.Goals as goal\n" % (crate, path.replace("/", "."))

@@ -127,7 +127,7 @@ def of_many(line: bytes, column: int, known: Known) -> Hint:
     if word in ("ignore", "ignoring", "consider"):
         return Hint("at most 64 names are listed: leave those out that don't stand between others")
     if word == "schedule":
-        return Hint("a schedule has at most 64 words: it begins anew behind its last one")
+        return Hint("a schedule has at most 64 words: it begins anew after its last one")
     before = text[:column - 1]
     if word == "axiom":
         return Hint(PARAMETERS if before.count("(") > before.count(")")

@@ -176,7 +176,7 @@ NAMED_EDITS: dict[str, dict[str, str]] = {
         "place_always_the_end": "the place of a syntax refusal is always the end of the line",
     },
     "lsys_history": {
-        "what_was_undone_is_not_forgotten": "what was undone is not forgotten behind a new edit",
+        "what_was_undone_is_not_forgotten": "what was undone is not forgotten after a new edit",
     },
     "lsys_motion": {
         "end_of_a_branch_carried_past_it": "the end of a branch is carried past its bracket",

@@ -1,7 +1,7 @@
 """Which module drew a segment, where it comes from and what becomes of it, as the program itself tells it.
 
 No reply names the rule that rewrote a module. But a copy of a step's table whose rules put one mark each, in the place of what they put, is
-asked for the same modules in the same order: the string behind that step has the rule of each of them. So a second program is given such
+asked for the same modules in the same order: the string after that step has the rule of each of them. So a second program is given such
 copies, and the homomorphism as one more table. What each rule puts is read from `show`, and each level that follows is compared with the
 program's own string; where one differs, or where there is no room for the copies, that is said and nothing is guessed.
 """
@@ -188,7 +188,7 @@ class Lineage:
         return self.levels[number]
 
     def step(self) -> None:
-        """The level behind the last one that is known."""
+        """The level after the last one that is known."""
         last, number = self.levels[-1], len(self.levels) - 1
         last.rules = self.marks(number, self.schedule[number % len(self.schedule)])
         names, parents, numbers = [], [], []
@@ -205,7 +205,7 @@ class Lineage:
                                  [names[place] for place in places]))
 
     def drawn(self, number: int) -> Level:
-        """The level with the first segment of each of its symbols, and behind the last one how many there are."""
+        """The level with the first segment of each of its symbols, and after the last one how many there are."""
         level = self.level(number)
         if not level.is_drawn:
             level.drawn, level.begins, level.is_drawn, count = self.marks(number, None), [], True, 0

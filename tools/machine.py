@@ -35,8 +35,8 @@ class Token:
         self.kind, self.start, self.stop = kind, start, stop
 
 
-def mode_behind(mode: str, text: bytes, is_first: bool) -> str:
-    """How letters are read behind a token: as words, as words until a colon, or as names."""
+def mode_after(mode: str, text: bytes, is_first: bool) -> str:
+    """How letters are read after a token: as words, as words until a colon, or as names."""
     if is_first:
         return "names" if text in NAMES_AT_ONCE else "until colon" if text in NAMES_BEHIND_COLON else "words"
     return "names" if mode == "until colon" and text == b":" else mode
@@ -69,7 +69,7 @@ def tokens_of(line: bytes) -> tuple[list[Token], int | None]:
         token = token_at(line, place, mode)
         if token is None:
             return found, place
-        mode = mode_behind(mode, line[place:token.stop], not found)
+        mode = mode_after(mode, line[place:token.stop], not found)
         found.append(token)
         place = token.stop
     return found, None
@@ -150,7 +150,7 @@ class Machine:
             self.fits(part, inner, known) for part, inner in zip(pattern[1:], value[1:]))
 
     def step(self, state: Any, kind: Kind) -> Any:
-        """The state behind a token."""
+        """The state after a token."""
         return self.called("line_step", [state, kind])
 
     def may_end(self, state: Any) -> bool:
@@ -178,7 +178,7 @@ ANY_WORD, ANY_NAME = "any\0", "A"
 
 
 class Stop:
-    """Where a line stops to be one: the state before, the number of the token that can't follow (that behind the last one where the line
+    """Where a line stops to be one: the state before, the number of the token that can't follow (that after the last one where the line
     ends too early), and the tokens."""
 
     def __init__(self, line: bytes) -> None:
@@ -205,9 +205,9 @@ class Stop:
         """The place in the line, from 0."""
         return self.tokens[self.number].start if self.number < len(self.tokens) else len(self.line)
 
-    def token(self, behind: int = 0) -> Token | None:
+    def token(self, after: int = 0) -> Token | None:
         """The token that can't follow or another one near it, or None."""
-        at = self.number + behind
+        at = self.number + after
         return self.tokens[at] if 0 <= at < len(self.tokens) else None
 
     def text(self, token: Token | None) -> str:

@@ -53,7 +53,7 @@ NO_SUCH = {
     "reset": "a script begins with nothing: take its lines out, or begin another one",
     "save": "the page and lsys-repl save a script; `svg` draws the picture", "open": "the page and lsys-repl open a script",
     "load": "the page and lsys-repl open a script"}
-DECIMALS = "numbers are whole, and this has a part behind its point"
+DECIMALS = "numbers are whole, and this has a part after its point"
 
 
 def distance(first: str, second: str) -> int:
@@ -131,9 +131,9 @@ def foreign_rule(text: str, known: Known) -> str | None:
 
 
 # What is told of each state of the machine where no case below fits.
-DUE = {"ProductionDue": "a label of your choice, as in `production p: A => AB`", "OneWord": "`:` behind the label",
-       "TwoWords": "`:` behind the label",
-       "LabelDue": "a label of your choice, as in `hom h: A => F`", "LabelRead": "`:` behind the label", "DropDue": "the label of a rule",
+DUE = {"ProductionDue": "a label of your choice, as in `production p: A => AB`", "OneWord": "`:` after the label",
+       "TwoWords": "`:` after the label",
+       "LabelDue": "a label of your choice, as in `hom h: A => F`", "LabelRead": "`:` after the label", "DropDue": "the label of a rule",
        "ScheduleDue": "the names of tables",
        "InSchedule": "the name of a table, or the end of the line", "SeedDue": "a whole number",
        "DepthDue": "a whole number, of the steps that are made", "StringRead": "a level's number, or the end of the line",
@@ -141,7 +141,7 @@ DUE = {"ProductionDue": "a label of your choice, as in `production p: A => AB`",
        "InNames": "a name, a turtle's sign, or the end of the line"}
 MODULE_SIGNS = {"Plus", "Minus", "Ampersand", "Caret", "Backslash", "Slash", "Bar", "Bang"}
 MEANT = [("Arrow", "`=>`"), ("Colon", "`:` and a condition"), ("At", "`@` and a weight"), ("Name", "a module"), ("LeftParen", "`(` and parameters"),
-         ("Less", "`<` behind a left context"), ("Greater", "`>` and a right context"), ("LeftBracket", "`[`"), ("RightBracket", "`]`"),
+         ("Less", "`<` after a left context"), ("Greater", "`>` and a right context"), ("LeftBracket", "`[`"), ("RightBracket", "`]`"),
          ("Percent", "`%`, a cut"),
          ("Comma", "`,` and one more"), ("RightParen", "`)`"), ("Number", "a whole number")]
 OPERATORS = {"Plus", "Minus", "Times", "Slash", "Percent", "Caret", "Equal", "Unequal", "Less", "Greater", "AtMost", "AtLeast", "Ampersand", "Bar"}
@@ -186,8 +186,8 @@ class Case:
     def __init__(self, line: bytes, known: Known) -> None:
         self.line, self.text, self.known, self.stop = line, text_of(line), known, Stop(line)
         self.at = self.stop.bad if self.stop.bad is not None else self.stop.place()
-        self.before, self.behind = text_of(line[:self.at]), text_of(line[self.at:])
-        self.here = self.behind[:1]
+        self.before, self.after = text_of(line[:self.at]), text_of(line[self.at:])
+        self.here = self.after[:1]
         self.word = "".join(re.findall(r"^\s*([A-Za-z]\w*)", self.text))
         self.state = self.stop.state[0]
         self.rule: Kind = self.stop.state[-1] if self.state in ("InProduction", "InHomomorphism") else ("",)
@@ -199,7 +199,7 @@ class Case:
 
     def with_here(self, old: str, new: str) -> str:
         """The line with something else in the place of what stands here."""
-        return self.before + new + self.behind[len(old):]
+        return self.before + new + self.after[len(old):]
 
 
 def other_arrow(case: Case) -> Told | None:
@@ -220,7 +220,7 @@ def desk_line(case: Case) -> Told | None:
     if case.word not in QUERIES_OF_DESK:
         return None
     if case.word in ("at", "growth"):
-        what = {"at": "the number of symbols behind which the turtle stands", "growth": "the number of a level"}[case.word]
+        what = {"at": "the number of symbols after which the turtle stands", "growth": "the number of a level"}[case.word]
         return "`%s` is followed by %s, as in `%s 100`" % (case.word, what, case.word), None
     return offered("nothing follows `%s`" % case.word, case.word)
 
@@ -233,7 +233,7 @@ def equality(case: Case) -> Told | None:
 
 
 def alone(case: Case) -> Told | None:
-    """Something behind a word that stands alone."""
+    """Something after a word that stands alone."""
     if case.word not in ("svg", "segments", "show", "quit") or case.text.strip() == case.word:
         return None
     told = "nothing follows `%s`" % case.word
@@ -243,8 +243,8 @@ def alone(case: Case) -> Told | None:
 
 
 def decimals(case: Case) -> Told | None:
-    """A number with a part behind its point."""
-    number = "".join(re.findall(r"\d*$", case.before)[:1] + re.findall(r"^\.\d*", case.behind))
+    """A number with a part after its point."""
+    number = "".join(re.findall(r"\d*$", case.before)[:1] + re.findall(r"^\.\d*", case.after))
     if case.here != "." or not re.search(r"\d", number) or case.word not in WORDS:
         return None
     if case.word in ("depth", "seed", "string", "version"):
@@ -259,7 +259,7 @@ def decimals(case: Case) -> Told | None:
 def semicolon(case: Case) -> Told | None:
     if case.here != ";" or not case.before.strip():
         return None
-    if not case.behind[1:].strip():
+    if not case.after[1:].strip():
         return offered("a line ends without `;`", case.before.rstrip())
     return "a comment stands on a line of its own, which begins with `;`: put it above", None
 
@@ -312,7 +312,7 @@ def strange_sign(case: Case) -> Told | None:
 
 
 def setting(case: Case) -> Told | None:
-    """A colon or an equals sign behind a word that takes its value at once: `axiom: F`, `depth = 5`."""
+    """A colon or an equals sign after a word that takes its value at once: `axiom: F`, `depth = 5`."""
     found = re.match(r"\s*(%s)\s*(:=|=|:)\s*(.*)" % "|".join(("axiom", "depth", "seed", "lattice", "string", "ignore", "schedule", "version", "drop",
                                                               "lineage")), case.text)
     if not found or len(case.before.strip()) > len(found.group(1)):
@@ -377,14 +377,14 @@ def label(case: Case) -> Told | None:
     """A label that is missing, or isn't one."""
     rest = case.text.partition(case.word)[2].strip()
     kind = case.kind()
-    if kind == "LeftParen" and ":" in case.behind.partition("=>")[0] and case.state in ("OneWord", "LabelRead"):
-        return "a label is a word alone: parameters stand behind the module, as in `production p: A(x) => B(x)`", None
+    if kind == "LeftParen" and ":" in case.after.partition("=>")[0] and case.state in ("OneWord", "LabelRead"):
+        return "a label is a word alone: parameters stand after the module, as in `production p: A(x) => B(x)`", None
     if case.state in ("OneWord", "ProductionDue", "LabelDue", "LabelRead") and kind in ("Arrow", "LeftParen", "Less", "Greater", "At", "Assign",
                                                                                         "Minus", "Colon", ""):
         body = re.sub(r"^:\s*", "", re.sub(r"\s*(->|\u2192|=(?![>=]))\s*", " => ", rest))
         found = re.match(r"(%s)" % NAME, body)
         if found and "=>" in body:
-            return offered("a label is missing: each rule has one of your choice, with a `:` behind it",
+            return offered("a label is missing: each rule has one of your choice, with a `:` after it",
                            "%s %s: %s" % (case.word, label_for(found.group(1), case.known), body))
     if kind == "LongWord":
         return "a label or a table has at most 16 signs: take a shorter one", None
@@ -394,7 +394,7 @@ def label(case: Case) -> Told | None:
         return "between `%s` and `:` stands a label, or a table and a label: one word or two" % case.word, None
     if case.state == "TwoWords" and "=>" in rest:
         words = rest.split(None, 1)
-        return offered("a `:` is missing behind the label", "%s %s: %s" % (case.word, words[0], words[1]))
+        return offered("a `:` is missing after the label", "%s %s: %s" % (case.word, words[0], words[1]))
     return None
 
 
@@ -402,7 +402,7 @@ def brackets(case: Case) -> Told | None:
     """A bracket that isn't closed, or that closes nothing."""
     if case.here == "]" and case.rule[0] != "InExpr":
         return "no `[` is open before this `]`: take it out, or put a `[` before", None
-    if case.behind.strip():
+    if case.after.strip():
         return None
     opened = []
     begin = case.text.find("=>") if case.word in ("production", "hom") else 0
@@ -414,18 +414,18 @@ def brackets(case: Case) -> Told | None:
     if not opened:
         return None
     place, sign = opened[-1]
-    return "the `%s` at column %d isn't closed: a `%s` is missing behind it" % (sign, len(case.text[:place].encode("utf-8", "surrogateescape")) + 1,
+    return "the `%s` at column %d isn't closed: a `%s` is missing after it" % (sign, len(case.text[:place].encode("utf-8", "surrogateescape")) + 1,
                                                                                 {"[": "]", "(": ")"}[sign]), None
 
 
 def second_arrow(case: Case) -> Told | None:
     if case.rule[0] == "Successor" and case.kind() == "Arrow":
-        return "a rule has one `=>`: put what stands behind the second one into a rule of its own", None
+        return "a rule has one `=>`: put what stands after the second one into a rule of its own", None
     return None
 
 
-def behind_arrow(case: Case) -> Told | None:
-    """A condition or a weight behind what is put."""
+def after_arrow(case: Case) -> Told | None:
+    """A condition or a weight after what is put."""
     kind = case.kind()
     if case.rule[0] == "Successor" and kind in ("Colon", "At"):
         what = {"Colon": "condition", "At": "weight"}[kind]
@@ -450,7 +450,7 @@ def pattern(case: Case) -> Told | None:
     if case.rule[0] == "Formals" and kind in ("Arrow", "Colon", "At") and case.rule[2] == ("[]",):
         return "the module that the rule is for is missing before `%s`" % SIGNS[kind], None
     if case.rule[0] == "Formals" and kind in ("Arrow", "Colon", "At"):
-        return ("a rule is for one module: what stands before it is a left context with `<`, as in A < B, and what stands behind it a right one "
+        return ("a rule is for one module: what stands before it is a left context with `<`, as in A < B, and what stands after it a right one "
                 "with `>`", None)
     if case.rule[0] == "Formals" and kind == "Less":
         return "the left context stands first, then the module, then the right context: A < B > C", None
@@ -477,7 +477,7 @@ def number_due(case: Case) -> Told | None:
     kind = case.kind()
     if case.state in ("DepthDue", "SeedDue", "VersionDue", "StringRead"):
         number = {"one": 1, "two": 2, "three": 3, "four": 4, "five": 5, "six": 6, "seven": 7, "eight": 8, "nine": 9,
-                  "ten": 10}.get(case.behind.strip().lower())
+                  "ten": 10}.get(case.after.strip().lower())
         if number:
             return offered("numbers are written by digits", "%s %d" % (case.word, number))
         if kind == "Minus":
@@ -488,23 +488,23 @@ def number_due(case: Case) -> Told | None:
     if case.state in ("LatticeDue", "NumberingDue"):
         words = case.stop.expected()[1]
         meant = {"triangular": "hexagonal", "triangle": "hexagonal", "60": "hexagonal", "90": "square", "rectangular": "square", "3d": "cubic",
-                 "cube": "cubic"}.get(case.behind.strip().lower())
-        near = meant if meant in words else nearest(case.behind.strip(), words)
+                 "cube": "cubic"}.get(case.after.strip().lower())
+        near = meant if meant in words else nearest(case.after.strip(), words)
         told = "here: %s" % quoted(words)
         return offered("did you mean `%s`? %s" % (near, told), "%s %s" % (case.word, near)) if near else (told, None)
     return None
 
 
 def nothing_more(case: Case) -> Told | None:
-    """Something behind a command that is whole."""
+    """Something after a command that is whole."""
     if case.state != "Whole":
         return None
     told = "nothing follows `%s`" % case.before.strip()
-    return offered(told, case.before.rstrip()) if case.behind.strip() else (told, None)
+    return offered(told, case.before.rstrip()) if case.after.strip() else (told, None)
 
 
 CASES = [desk_line, semicolon, lookalike, other_arrow, alone, equality, preprocessor, comment, bare_rule, foreign_word, decimals, strange_sign,
-         setting, first_word, label, second_arrow, behind_arrow, brackets,
+         setting, first_word, label, second_arrow, after_arrow, brackets,
          pattern, empty_parens, axiom, number_due, nothing_more]
 
 

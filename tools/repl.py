@@ -118,10 +118,10 @@ class Terminal:
     def completions(self, line: str, text: str) -> list[str]:
         """The words that may stand where a word begins with `text`, at the end of a line."""
         before = line[:len(line) - len(text)]
-        return [word + " " * (word in COMMANDS) for word in sorted(self.words_behind(before))
+        return [word + " " * (word in COMMANDS) for word in sorted(self.words_after(before))
                 if word.startswith(text)] if text or before else COMMANDS
 
-    def words_behind(self, before: str) -> Iterable[str]:
+    def words_after(self, before: str) -> Iterable[str]:
         words, known = before.split(), self.conversation.words()
         if before.strip() == ":":
             return [word[1:] for word in OWN]

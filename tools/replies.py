@@ -12,7 +12,7 @@ LONGEST_LINE = 65536
 AT_COLUMN = re.compile(rb"refused (?:syntax (?:byte|token|deep)|name|duplicate|mixed|label|table|level|many|place) (\d+)$")
 # The first words of replies of many lines, and the beginnings of their last ones.
 LAST_LINES = [((b"<svg ",), b"</svg>"), ((b"lattice ", b"version "), b"depth ")]
-# Behind the first line of a growth as many letters are counted as stand there; no other reply begins like these lines.
+# After the first line of a growth as many letters are counted as stand there; no other reply begins like these lines.
 COUNT = re.compile(rb"(?:[A-Za-z](?:_[A-Za-z0-9]{1,6})?|[-+&^\\/|!]) \d+$")
 WIDEST_SHOWN = 100
 
@@ -62,7 +62,7 @@ class Lines:
 
 
 def reply_from(lines: Lines) -> Iterator[bytes]:
-    """The lines of the next reply. The end of a growth is told by the line behind it alone: who waits for a reply asks something more."""
+    """The lines of the next reply. The end of a growth is told by the line after it alone: who waits for a reply asks something more."""
     first = lines.next()
     yield first
     if first.startswith(b"segments "):

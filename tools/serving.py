@@ -191,7 +191,7 @@ class Answer(http.server.BaseHTTPRequestHandler):
             self.send_wrong(404, "there is nothing here")
 
     def send_picture(self) -> None:
-        """The segments as the program lists them, behind a line that says of which lattice and level they are."""
+        """The segments as the program lists them, after a line that says of which lattice and level they are."""
         reply, lattice, level = self.desk.picture(self.number("text"), self.number("level"), self.number("line"), self.number("most") or 0)
         self.send(200, "text/plain; charset=utf-8", ("%s %d\n" % (lattice, level)).encode() + reply)
 

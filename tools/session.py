@@ -92,7 +92,7 @@ class Program:
         return line
 
     def ask(self, line: bytes) -> str:
-        """Sends a command and gives its reply, with what is asked and since when told in `asking` meanwhile. Behind a growth one is sent whose
+        """Sends a command and gives its reply, with what is asked and since when told in `asking` meanwhile. After a growth one is sent whose
         reply is a refusal, by which the end is known."""
         self.asking = line, time.monotonic()
         try:
@@ -218,13 +218,13 @@ class Session:
             self.step(line)
         else:
             self.past, self.future = (self.past + [self.held])[-MOST_STEPS:], []
-            self.held = self.held_behind(key, line)
+            self.held = self.held_after(key, line)
         if key == ("depth", None) or is_step(line):
             self.standing = self.depth()
         return reply
 
-    def held_behind(self, key: Key | None, line: bytes) -> dict[Key, bytes]:
-        """What is held behind an accepted edit."""
+    def held_after(self, key: Key | None, line: bytes) -> dict[Key, bytes]:
+        """What is held after an accepted edit."""
         if key is not None:
             return {**self.held, key: line}
         label = line.split()[1].decode("latin-1")
@@ -266,7 +266,7 @@ class Session:
         return "begun anew"
 
     def goes_on(self, commands: list[bytes]) -> bool:
-        """Asks the further ones of these commands where those before them have been asked already, and none behind them changed anything.
+        """Asks the further ones of these commands where those before them have been asked already, and none after them changed anything.
         Says whether that was so."""
         common = 0
         while common < min(len(commands), len(self.commands)) and commands[common] == self.commands[common]:
@@ -339,7 +339,7 @@ class Session:
         return self.tried.get(key) == line and (self.held.get(key) == line or not self.told.get(key, "ok ").startswith("ok "))
 
     def rules_keep_their_order(self, edits: Iterable[Key]) -> bool:
-        """Whether rules that stay do so in their order, with those that are new behind them."""
+        """Whether rules that stay do so in their order, with those that are new after them."""
         for kind in ("production", "hom"):
             stays = [key for key in self.held if key[0] == kind and key in edits]
             wanted = [key for key in edits if key[0] == kind]
@@ -366,17 +366,17 @@ def are_in_order(keys: Sequence[Key]) -> bool:
 
 
 def needs_come_first(edits: list[Key]) -> bool:
-    """Whether the version is set first, tables are named behind the rules, and the depth behind all that levels come from: no line before
+    """Whether the version is set first, tables are named after the rules, and the depth after all that levels come from: no line before
     `depth` derives anything then, and none is refused for want of a later one."""
     words = [word for word, _ in edits]
     rules = [place for place, word in enumerate(words) if word == "production"]
     named = [place for place, word in enumerate(words) if word in ("schedule", "own")]
-    behind_depth = words[words.index("depth") + 1:] if "depth" in words else []
-    return "version" not in words[1:] and (not rules or not named or rules[-1] < named[0]) and set(behind_depth) <= {"lattice", "hom"}
+    after_depth = words[words.index("depth") + 1:] if "depth" in words else []
+    return "version" not in words[1:] and (not rules or not named or rules[-1] < named[0]) and set(after_depth) <= {"lattice", "hom"}
 
 
 def commands_before_end(lines: Iterable[bytes]) -> list[tuple[int, bytes]]:
-    """The commands of a script's lines with their places, up to `quit`, behind which nothing is a command."""
+    """The commands of a script's lines with their places, up to `quit`, after which nothing is a command."""
     found = []
     for place, line in enumerate(lines):
         if line.strip(b" \t") == b"quit":

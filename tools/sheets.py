@@ -34,15 +34,15 @@ def word_of(line: str) -> str:
 
 
 def numbers_of(line: str) -> list[tuple[int, int]]:
-    """The places of a line's numbers, each its begin and its end. Behind some words there are names, to which other digits belong."""
+    """The places of a line's numbers, each its begin and its end. After some words there are names, to which other digits belong."""
     if line.startswith(";"):
         return []
     word = word_of(line)
     names = line.index(word) + len(word) if word in ("axiom", "ignore") else line.find(":") + 1 if word in BEHIND_COLON and ":" in line else len(line)
     found = re.finditer(r"[A-Za-z]\w*|\d+", line[:names])
-    behind = re.finditer(r"[A-Za-z](?:_[A-Za-z0-9]{1,6})?|\d+", line[names:])
+    after = re.finditer(r"[A-Za-z](?:_[A-Za-z0-9]{1,6})?|\d+", line[names:])
     places = [match.span() for match in found if match.group()[0].isdigit()]
-    return places + [(names + match.start(), names + match.end()) for match in behind if match.group()[0].isdigit()]
+    return places + [(names + match.start(), names + match.end()) for match in after if match.group()[0].isdigit()]
 
 
 def with_edit(lines: list[str], edit: str) -> list[str]:

@@ -69,7 +69,7 @@ def line_of(text: str, place: int) -> int:
 
 
 def closed(text: str, place: int) -> int:
-    """The place behind the brace that closes the one at this place."""
+    """The place after the brace that closes the one at this place."""
     depth = 0
     for at in range(place, len(text)):
         depth += (text[at] == "{") - (text[at] == "}")
@@ -87,7 +87,7 @@ def clauses_in(path: str, text: str) -> Iterator[Clause]:
 
 
 def past_generics(text: str, place: int) -> int:
-    """The place of the parameters' parenthesis behind a function's name."""
+    """The place of the parameters' parenthesis after a function's name."""
     depth = 0
     while text[place] != "(" or depth:
         depth += (text[place] == "<") - (text[place] == ">" and text[place - 1] not in "-=")

@@ -207,7 +207,7 @@ def text(told: dict[str, Any], data: bytes) -> bytes:
 
 
 def binary(told: dict[str, Any], data: bytes) -> bytes:
-    """The file as bytes: the text and the numbers one behind the other."""
+    """The file as bytes: the text and the numbers one after the other."""
     words = json.dumps(with_buffer(told, data, {}), separators=(",", ":")).encode()
     words += b" " * (-len(words) % 4)
     chunks = struct.pack("<I4s", len(words), b"JSON") + words

@@ -65,7 +65,7 @@ def findings() -> Iterator[str]:
 
 
 def headings_and_crates() -> list[str]:
-    """What crates.txt lists in order, behind its first line: headings, and names of crates."""
+    """What crates.txt lists in order, after its first line: headings, and names of crates."""
     with open(os.path.join(TOP, "crates.txt")) as file:
         texts = [line.strip() for line in file][1:]
     return [text[1:].strip().lower() if text.startswith("#") else text.partition(":")[0].split()[0] for text in texts if text]

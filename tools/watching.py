@@ -97,7 +97,7 @@ class Watching:
             return {"sheet": self.number, "columns": sheet.columns, "cells": [told_of(cell, lines) for cell in sheet.cells]}
 
     def cell(self, number: int | None, place: int | None) -> bytes:
-        """A cell's picture once it is drawn: a line with lattice, level, counts and whether it is done, and behind it the program's reply."""
+        """A cell's picture once it is drawn: a line with lattice, level, counts and whether it is done, and after it the program's reply."""
         with self.lock:
             if number != self.number or not self.sheet or place is None or not 0 <= place < len(self.sheet.cells):
                 raise Wrong("there is no such sheet any more", 404)

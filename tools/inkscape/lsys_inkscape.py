@@ -25,7 +25,7 @@ from replies import caret_inside
 SCRIPT = "lsys-script"
 NO_PROGRAM = ("The program lsys was not found in PATH nor beside this extension. Install it (the package of lsys has it), or name it on the page "
               "Program.")
-# What a field of several lines holds in place of a line's end, where a line begins behind it. A \\n inside of a line is a roll and a module,
+# What a field of several lines holds in place of a line's end, where a line begins after it. A \\n inside of a line is a roll and a module,
 # and so it is before an `at` without a number.
 COMMANDS = ("axiom|production|drop|ignore|ignoring|consider|common|schedule|seed|depth|lattice|lineage|version|"
             "hom|string|segments|svg|show|bounds|at|growth|undo|redo|quit")

@@ -20,7 +20,7 @@ times:     9 s  lsys_io: must-fail edit last_line_lost
 times:    15 s  lsys_io: ground of its edits
 other words
 """
-PAGE = "before\n<!-- minutes: written by tools/x -->\n\nold\n\n<!-- end -->\nbehind\n"
+PAGE = "before\n<!-- minutes: written by tools/x -->\n\nold\n\n<!-- end -->\nafter\n"
 KEPT: list[tuple[list[str], list[int]]] = [
     (["A", "%", "B"], [0]), (["A", "[", "F", "%", "G", "]", "B"], [0, 1, 2, 5, 6]), (["[", "%", "[", "A", "]", "]", "B"], [0, 5, 6]), ([], []),
     (["A", "[", "%", "]", "%", "B"], [0, 1, 3]),

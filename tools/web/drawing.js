@@ -12,7 +12,7 @@ const ROUND_BELOW = 20000;
 // A path with more segments takes longer than several with fewer.
 const BATCH = 512;
 
-// What the server sends: a line with the lattice and the level, and behind it the program's reply.
+// What the server sends: a line with the lattice and the level, and after it the program's reply.
 export function parse(text) {
     const first = text.indexOf("\n"), second = text.indexOf("\n", first + 1);
     const [lattice, level] = text.slice(0, first).split(" ");

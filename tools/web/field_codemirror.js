@@ -35,7 +35,7 @@ function element(name, kind, text) {
     return made;
 }
 
-// The reply behind a line. What its counts mean is told by a click.
+// The reply after a line. What its counts mean is told by a click.
 function besides(reply, onCounts) {
     const refused = reply.startsWith("refused ");
     const made = element("span", refused ? "reply refused" : "reply", refused ? "" : shortReply(reply));
@@ -163,7 +163,7 @@ export class CodeMirrorField {
         this.field.focus();
     }
 
-    // Puts the cursor before a line, and lets it be seen with what stands behind it.
+    // Puts the cursor before a line, and lets it be seen with what stands after it.
     begin(line) {
         this.field.setCursor(line, 0);
         const { clientHeight, height } = this.field.getScrollInfo();

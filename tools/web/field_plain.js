@@ -112,7 +112,7 @@ export class PlainField {
         this.area.focus();
     }
 
-    // Puts the cursor before a line, and lets it be seen with what stands behind it.
+    // Puts the cursor before a line, and lets it be seen with what stands after it.
     begin(line) {
         const lines = this.lines(), place = lines.slice(0, line).join("\n").length + (line ? 1 : 0);
         this.area.setSelectionRange(place, place);

@@ -22,7 +22,7 @@ async function through(stream, bytes) {
     return new Uint8Array(await new Response(new Blob([bytes]).stream().pipeThrough(stream)).arrayBuffer());
 }
 
-// The part of an address behind `#` that holds a script. It is sent nowhere.
+// The part of an address after `#` that holds a script. It is sent nowhere.
 export async function linkOf(script) {
     const bytes = await through(new CompressionStream("deflate-raw"), new TextEncoder().encode(script));
     let text = "";

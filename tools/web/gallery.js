@@ -7,7 +7,7 @@ const at = id => page.getElementById(id);
 
 const MOST_SIGNS = 80;
 
-// What an example's comment says, without its source, and cut behind a word.
+// What an example's comment says, without its source, and cut after a word.
 function shortened(about) {
     const text = about.replace(/ \([^)]*figure[^)]*\)/, "");
     return text.length <= MOST_SIGNS ? text : text.slice(0, MOST_SIGNS).replace(/\W*\w*$/, " ..");

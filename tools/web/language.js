@@ -8,7 +8,7 @@ export const QUERIES = ["string", "segments", "svg", "show", "bounds", "at", "gr
 export const STEPS = ["undo", "redo"];
 export const COMMANDS = [...EDITS, ...QUERIES, ...STEPS, "quit"];
 const RULES = ["production", "hom"];
-// Behind these words, or behind the first colon of these, there are names and no words.
+// After these words, or after the first colon of these, there are names and no words.
 const NAMES_BEHIND_WORD = ["axiom", "ignore"];
 const NAMES_BEHIND_COLON = ["production", "hom", "ignoring", "consider"];
 const FIRST_WORD = /^[ \t]*([A-Za-z]\w*)/;

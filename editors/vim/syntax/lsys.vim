@@ -8,7 +8,7 @@ syn case match
 " A comment begins a line.
 syn match lsysComment /^;.*/ contains=@Spell
 syn match lsysCommand /^[ \t]*\%(axiom\|production\|drop\|ignore\|ignoring\|consider\|common\|schedule\|seed\|depth\|lattice\|lineage\|version\|hom\|string\|segments\|svg\|show\|bounds\|at\|growth\|undo\|redo\|quit\)\>/
-" Words that only stand behind these commands.
+" Words that only stand after these commands.
 syn match lsysSetting /\%(^[ \t]*\%(lattice\|lineage\)[ \t]\+\)\@<=\%(square\|hexagonal\|cubic\|places\|names\)\>/
 " A label, and the table before it.
 syn match lsysLabel /\%(^[ \t]*\%(production\|hom\|drop\|ignoring\|consider\|common\)[ \t]\+\)\@<=\h\w*\%([ \t]\+\h\w*\)\?/
