@@ -19,6 +19,8 @@
 //! | `renewed` | have another answer than at the last rest (`born` counts those that had none then) |
 //! | `dropped` | had an answer, and are gone or have none any more |
 //! | `moved` | came or turned: their seats are set anew when the edit is kept |
+//!
+//! A *seat* is what a node stood beside when the last edit was kept: its neighbours and its mate then, where only they are asked for.
 #![tactic(auto)]
 
 mod asked;

@@ -16,7 +16,7 @@ use Rattle.lsys_syntax.proofs.ExprSound.{Good, IsOperand, IsNamed, After, step-a
 use Rattle.lsys_syntax.proofs.ExprLeads.{front-small}
 use Rattle.lsys_syntax.proofs.LineSound.{not_deep}
 use Rattle.lsys_syntax.proofs.Places.{tokens-front, is_deep}
-use Rattle.lsys_syntax.proofs.WholeExpressions.{runs, Goes, after-going, done-or-stop}
+use Rattle.lsys_syntax.proofs.WholeExpressions.{runs, Goes, extent-going, done-or-stop}
 
 -- With the first of these tokens, if there is one, the state doesn't go on.
 abbrev OverNext : ExpressionState → List Kind → Type 0
@@ -125,7 +125,7 @@ reached-next k ks n s x g (inl h) f = subst (λ y. Reached (extent_after n s y x
     (0, n, omega arith, omega arith, (tt, g), (refl, step-done s (small k) h.0 h.1, subst IsOver (sym h.1) tt))
 reached-next k ks n s x g (inr (inl h)) f = subst (λ y. Reached (extent_after n s y x) s (k ∷ ks) n) (sym h)
     (reached-end (k ∷ ks) n s (end_step s) g (end-over s) refl (subst IsOver (sym h) tt))
-reached-next k ks n s x g (inr (inr h)) f = subst (λ y. Reached y s (k ∷ ks) n) (sym (after-going n s (step s (small k)) x h))
+reached-next k ks n s x g (inr (inr h)) f = subst (λ y. Reached y s (k ∷ ks) n) (sym (extent-going n s (step s (small k)) x h))
     (reached-going k ks n s x (nat_lt 32 (depth (step s (small k)))) refl g h f)
 
 reached-from : (ks : List Kind) (n : ℕ) (s : ExpressionState) → IsGoing s → Reached (extent_from n s ks) s ks n

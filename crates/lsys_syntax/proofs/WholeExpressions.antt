@@ -20,23 +20,23 @@ runs s ks = run s (map small ks)
 abbrev pub Goes : ℕ → ExpressionState → List Kind → Type 0
 Goes b s ks = StaysWithin b s (map small ks) × IsGoing (runs s ks)
 
-pub after-going : (n : ℕ) (s t : ExpressionState) (x : Extent) → IsGoing t → extent_after n s t x ≡ (if nat_lt 32 (depth t) then too_deep n else x)
-after-going n s (Due k) x h = refl
-after-going n s (Have a k) x h = refl
-after-going n s (HalfAnd a k) x h = refl
-after-going n s (HalfOr e k) x h = refl
-after-going n s (Done e) x h = elim h [ ]
-after-going n s Stop x h = elim h [ ]
+pub extent-going : (n : ℕ) (s t : ExpressionState) (x : Extent) → IsGoing t → extent_after n s t x ≡ (if nat_lt 32 (depth t) then too_deep n else x)
+extent-going n s (Due k) x h = refl
+extent-going n s (Have a k) x h = refl
+extent-going n s (HalfAnd a k) x h = refl
+extent-going n s (HalfOr e k) x h = refl
+extent-going n s (Done e) x h = elim h [ ]
+extent-going n s Stop x h = elim h [ ]
 
 pub within-rest : (n : ℕ) (x : Extent) (s t : ExpressionState) → depth t ≤ 32 → IsGoing t → extent_after n s t x ≡ x
-within-rest n x s t d g = after-going n s t x g ∙ ap (λ c. if c then too_deep n else x) (shallow (depth t) (nat_lt 32 (depth t)) refl d)
+within-rest n x s t d g = extent-going n s t x g ∙ ap (λ c. if c then too_deep n else x) (shallow (depth t) (nat_lt 32 (depth t)) refl d)
   where
     shallow : (m : ℕ) (c : Bool) → nat_lt 32 m ≡ c → m ≤ 32 → c ≡ false
     shallow m false q h = refl
     shallow m true q h = let more : 32 < m = is_deep 32 m q in absurd (omega (arith, more, h))
 
 pub after-deep : (n : ℕ) (x : Extent) (s t : ExpressionState) → 32 < depth t → IsGoing t → extent_after n s t x ≡ too_deep n
-after-deep n x s t d g = after-going n s t x g ∙ ap (λ c. if c then too_deep n else x) (lt-ltb 32 (depth t) d)
+after-deep n x s t d g = extent-going n s t x g ∙ ap (λ c. if c then too_deep n else x) (lt-ltb 32 (depth t) d)
 
 -- Tokens that are taken are passed over.
 through : (ks rest : List Kind) (n m : ℕ) (s : ExpressionState) → Goes 32 s ks → m ≡ n + length ks → extent_from n s (ks ++ rest) ≡ extent_from m (runs s ks) rest
