@@ -187,7 +187,7 @@ impl<A: Kept> Forest<A> {
         self.loose = loose_beside(self.loose, &self.parts, node, kids);
         self.spare_notes -= 1;
         self.parts.set_kids(node, kids);
-        self.parts.rerank(node);
+        self.parts.rank_kids(node, kids);
         let depth = self.parts.depth(node);
         self.linked = self.linked.min(depth);
         self.mated = self.mated.min(depth);

@@ -391,6 +391,18 @@ impl<A: Drop> Parts<A> {
         }
     }
 
+    /// Gives these nodes, which are the children of a node, their ranks.
+    pub(crate) fn rank_kids(&mut self, node: NodeId, kids: &[NodeId])
+        requires sound { (root : ℕ) × IsRooted root (changes_of self.old) (nodes_of self.old) }
+        requires kids { kids_kept self.old node ≡ kids.now }
+        ensures same { self.new ≡ record self.old { footings = self.new.footings } }
+        ensures ranked { RanksKidsOf node self.old self.new }
+        ensures links { KeepsLinks self.old.footings self.new.footings }
+        ensures mates { KeepsMates self.old.footings self.new.footings }
+    {
+        number(&mut self.table, kids);
+    }
+
     /// Links the children of a node to one another, the first of them after `before`, and answers the last.
     pub(crate) fn link_kids(&mut self, node: NodeId, before: Option<NodeId>) -> Option<NodeId>
         requires sound { (root : ℕ) × IsRooted root (changes_of self.old) (nodes_of self.old) }

@@ -307,9 +307,22 @@ fn change_answer<A: Drop>(
     ensures changed { ChangesEntry (node_set (answer_set answer)) number nodes.old nodes.new }
 {
     match nodes.get_mut(number.0 as usize) {
-        Some(entry) => mem::replace(&mut entry.node.answer, answer),
+        Some(entry) => swap_answers(&mut entry.node.answer, answer),
         None => answer,
     }
+}
+
+/// Puts an answer where another one or none stands, which is answered: where none does, nothing has to be moved out.
+#[inline]
+fn swap_answers<A: Drop>(place: &mut Option<A>, answer: Option<A>) -> Option<A>
+    ensures before { result ≡ place.old }
+    ensures put { place.new ≡ answer }
+{
+    if place.is_none() {
+        *place = answer;
+        return None;
+    }
+    mem::replace(place, answer)
 }
 
 /// Sets the run of a node's parameters, and answers the one before; where no node lives, the run comes back.

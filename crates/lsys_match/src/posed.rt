@@ -66,6 +66,7 @@ impl<'a> Posed<'a> {
     /// The symbols that are kept of what replaces the module: the successor of the rule at a place of its group, where these
     /// are the values of the rule's formals, or the module itself where no rule is chosen. None are kept where they stand in
     /// the rule's body. They are worked out where they stay, in room for them alone.
+    #[inline]
     pub(crate) fn kept_symbols(
         &self,
         alloc: Global,
@@ -75,10 +76,24 @@ impl<'a> Posed<'a> {
         requires { length self.now.params.now ≤ 8 }
         ensures { IsSuccessorKept self.now chosen bound.now result }
     {
-        let mut symbols = SymbolList::new(alloc);
         if self.has_constant(chosen) {
-            return Ok(symbols);
+            return Ok(SymbolList::new(alloc));
         }
+        self.worked_out(alloc, chosen, bound)
+    }
+
+    // The same, where they don't stand in the rule's body.
+    fn worked_out(
+        &self,
+        alloc: Global,
+        chosen: Option<u8>,
+        bound: &[i64],
+    ) -> Result<SymbolList, AskRefusal>
+        requires few { length self.now.params.now ≤ 8 }
+        requires none { constant_chosen self.now.group chosen ≡ None }
+        ensures { IsSuccessorKept self.now chosen bound.now result }
+    {
+        let mut symbols = SymbolList::new(alloc);
         self.replace(&mut symbols, chosen, bound)?;
         Ok(symbols)
     }

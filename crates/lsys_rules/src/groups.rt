@@ -157,7 +157,7 @@ pub(crate) fn rules_at(groups: &Groups, key: GroupKey) -> Option<&SharedGroup>
     ensures { found_rules result ≡ rules_at groups.now key }
 {
     if groups.len() > FEW_GROUPS {
-        return groups.get(&key);
+        return rules_by_hash(groups, &key);
     }
     for (other, group) in groups.iter() {
         if is_same(key, other) {
@@ -165,6 +165,14 @@ pub(crate) fn rules_at(groups: &Groups, key: GroupKey) -> Option<&SharedGroup>
         }
     }
     None
+}
+
+// The same by the key's hash. It stands apart, since what it holds meanwhile would be saved at each look through a few.
+#[inline(never)]
+fn rules_by_hash<'a>(groups: &'a Groups, key: &GroupKey) -> Option<&'a SharedGroup>
+    ensures { found_rules result ≡ rules_at groups.now key.now }
+{
+    groups.get(key)
 }
 
 // Whether two keys are equal. Most that aren't differ in their names.
