@@ -131,7 +131,7 @@ def silence(trial: Trial, words: list[str], path: str) -> None:
 
 
 def stopped_build(trial: Trial, words: list[str], path: str, number: int, status: int) -> None:
-    # Who started this check may ignore Ctrl-C, as a shell does for what runs behind it.
+    # Who started this check may ignore Ctrl-C, as a shell does for what runs in the background.
     def heeds() -> None:
         signal.signal(signal.SIGINT, signal.SIG_DFL)
 

@@ -1,4 +1,4 @@
-"""Trials of what stands behind the page: undo, programs and pages that go or come, files that others write, requests from elsewhere, large
+"""Trials of what serves the page: undo, programs and pages that go or come, files that others write, requests from elsewhere, large
 scripts, and the ends of the tool."""
 
 from __future__ import annotations

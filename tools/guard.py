@@ -36,7 +36,7 @@ def user_of(client: Sequence[Any], server: Sequence[Any]) -> int | None:
 
 
 def own_users() -> set[int]:
-    """The person's own number, also behind sudo, and root's, who reads every secret anyway and passes connections on."""
+    """The person's own number, also under sudo, and root's, who reads every secret anyway and passes connections on."""
     return {os.getuid(), 0} | {int(number) for number in [os.environ.get("SUDO_UID", "")] if number.isdigit()}
 
 

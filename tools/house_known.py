@@ -155,7 +155,7 @@ NAMED_EDITS: dict[str, dict[str, str]] = {
         "the_limit_told_a_level_late": "the limit is told one level late, in lists",
     },
     "lsys_rewrite": {
-        "cut_goes_on_behind_its_branch": "the cut inside a branch goes on to the end of the string",
+        "cut_goes_on_after_its_branch": "the cut inside a branch goes on to the end of the string",
     },
     "lsys_forest": {
         "removed_nodes_are_given_back_before_the_commit": "removed nodes are given back before the commit",

@@ -23,7 +23,7 @@ SIGNS = {kind: mark.decode() for mark, kind in MARKS.items()}
 WORD, NAME, DIGITS = re.compile(rb"[A-Za-z][A-Za-z0-9_]*"), re.compile(rb"[A-Za-z](?:_[A-Za-z0-9]{1,6})?"), re.compile(rb"[0-9]+")
 MARK = re.compile(rb"=>|==|!=|<=|>=|[()\[\],:@+\-*/\\%&|^!<>=]")
 MOST_WORD, NUMBER_BOUND = 16, 2 ** 64
-NAMES_AT_ONCE, NAMES_BEHIND_COLON = (b"axiom", b"ignore"), (b"production", b"hom", b"ignoring", b"consider")
+NAMES_AT_ONCE, NAMES_AFTER_COLON = (b"axiom", b"ignore"), (b"production", b"hom", b"ignoring", b"consider")
 # A longer line isn't followed; its reply is told alone.
 MOST_TOKENS = 400
 
@@ -38,7 +38,7 @@ class Token:
 def mode_after(mode: str, text: bytes, is_first: bool) -> str:
     """How letters are read after a token: as words, as words until a colon, or as names."""
     if is_first:
-        return "names" if text in NAMES_AT_ONCE else "until colon" if text in NAMES_BEHIND_COLON else "words"
+        return "names" if text in NAMES_AT_ONCE else "until colon" if text in NAMES_AFTER_COLON else "words"
     return "names" if mode == "until colon" and text == b":" else mode
 
 

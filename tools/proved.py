@@ -158,7 +158,7 @@ def fault_of_call(crates: Crates, path: str, call: str, labels: list[str], rest:
 
 
 def body_of(text: str, found: re.Match[str]) -> str:
-    """The lines of a definition behind the one that names it: those that are indented more than it is."""
+    """The lines of a definition after the one that names it: those that are indented more than it is."""
     indent = len(found.group()) - len(found.group().lstrip())
     lines = []
     for line in text[found.end():].split("\n")[1:]:

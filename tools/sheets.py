@@ -23,7 +23,7 @@ MOST_CELLS = 100
 AXIS = re.compile(r"(seed|depth|(\d+)\.(\d+))=(\d+)\.\.(\d+)(?:/(\d+))?$")
 AXIS_TOLD = "seed=1..9, depth=0..5, or 3.2=1..9/2 for the second number of line 3 from 1 to 9 by steps of 2"
 WORD = re.compile(r"[ \t]*([A-Za-z]\w*)")
-BEHIND_COLON = ("production", "hom", "ignoring", "consider")
+AFTER_COLON = ("production", "hom", "ignoring", "consider")
 # The sizes of a cell of a sheet, and of what is written below its picture.
 CELL, GAP, CAPTION, LINE = 200, 12, 40, 15
 
@@ -38,7 +38,7 @@ def numbers_of(line: str) -> list[tuple[int, int]]:
     if line.startswith(";"):
         return []
     word = word_of(line)
-    names = line.index(word) + len(word) if word in ("axiom", "ignore") else line.find(":") + 1 if word in BEHIND_COLON and ":" in line else len(line)
+    names = line.index(word) + len(word) if word in ("axiom", "ignore") else line.find(":") + 1 if word in AFTER_COLON and ":" in line else len(line)
     found = re.finditer(r"[A-Za-z]\w*|\d+", line[:names])
     after = re.finditer(r"[A-Za-z](?:_[A-Za-z0-9]{1,6})?|\d+", line[names:])
     places = [match.span() for match in found if match.group()[0].isdigit()]

@@ -9,8 +9,8 @@ export const STEPS = ["undo", "redo"];
 export const COMMANDS = [...EDITS, ...QUERIES, ...STEPS, "quit"];
 const RULES = ["production", "hom"];
 // After these words, or after the first colon of these, there are names and no words.
-const NAMES_BEHIND_WORD = ["axiom", "ignore"];
-const NAMES_BEHIND_COLON = ["production", "hom", "ignoring", "consider"];
+const NAMES_AFTER_WORD = ["axiom", "ignore"];
+const NAMES_AFTER_COLON = ["production", "hom", "ignoring", "consider"];
 const FIRST_WORD = /^[ \t]*([A-Za-z]\w*)/;
 
 export function wordOf(line) {
@@ -21,8 +21,8 @@ export function wordOf(line) {
 // The place in a line from which it has names.
 export function beginOfNames(line) {
     const word = wordOf(line);
-    if (NAMES_BEHIND_WORD.includes(word)) return line.indexOf(word) + word.length;
-    const colon = NAMES_BEHIND_COLON.includes(word) ? line.indexOf(":") : -1;
+    if (NAMES_AFTER_WORD.includes(word)) return line.indexOf(word) + word.length;
+    const colon = NAMES_AFTER_COLON.includes(word) ? line.indexOf(":") : -1;
     return colon < 0 ? line.length : colon + 1;
 }
 

@@ -17,7 +17,7 @@ pub case_1 : run 100000 ((codes "axiom f(1000000000)f\nbounds\nat 1\n")) ≡ ((c
 unfolding digits
 case_1 = refl
 
--- an edit behind an undo forgets what was undone
+-- an edit after an undo forgets what was undone
 pub case_2 : run 100000 ((codes "axiom A\nproduction a: A => AB\ndepth 2\naxiom AA\naxiom AAA\nundo\nundo\nstring\naxiom B\nredo\nstring\nundo\nstring\nredo\nstring\nundo\naxiom C\nundo\nundo\nundo\nundo\nundo\nstring\nredo\nredo\nredo\nredo\nredo\nstring\n")) ≡ ((codes "ok 0/0\nok 0/0\nok 2/2\nok 2/4\nok 2/6\nok 0/4\nok 0/2\nABB\nok 0/0\nrefused redo\nB\nok 2/2\nABB\nok 0/0\nB\nok 2/2\nok 0/0\nok 2/2\nok 0/0\nok 0/0\nok 0/0\nrefused undo\n\nok 0/0\nok 0/0\nok 2/2\nok 0/0\nrefused redo\nC\n"))
 unfolding digits
 case_2 = refl
@@ -102,18 +102,18 @@ pub case_23 : run 100000 ((codes "lattice hexagonal\naxiom F+F+F+F+F+F\nat 3\nat
 unfolding digits
 case_23 = refl
 
--- places behind an edit
+-- places after an edit
 pub case_24 : run 100000 ((codes "axiom F\nat 1\naxiom F(2)\nat 1\nundo\nbounds\n")) ≡ ((codes "ok 0/0\nat 0 1 0 0 1 0 1\nok 0/0\nat 0 2 0 0 1 0 1\nok 0/0\nbounds 0 0 0 1 0 0\n"))
 unfolding digits
 case_24 = refl
 
--- places behind each symbol of a homomorphism
+-- places after each symbol of a homomorphism
 pub case_25 : run 100000 ((codes "axiom AA\nhom h: A => F(2)+\nat 0\nat 1\nat 2\nat 3\nat 4\nat 5\n")) ≡ ((codes "ok 0/0\nok 0/0\nat 0 0 0 0 1 0 1\nat 0 2 0 0 1 0 1\nat 0 2 0 -1 0 0 1\nat -2 2 0 -1 0 0 1\nat -2 2 0 0 -1 0 1\nrefused place 4\n"))
 unfolding digits
 case_25 = refl
 
--- places behind every symbol of the image
-pub case_26 : run 100000 ((codes "; Behind the end of a branch place, heading and width are what they were before it.\naxiom F[!(3)+F[-F]f]F\nat 0\nat 1\nat 2\nat 3\nat 4\nat 5\nat 6\nat 7\nat 8\nat 9\nat 10\nat 11\nat 12\nat 13\nlattice hexagonal\nat 5\nat 8\nat 9\nat 10\naxiom !(2000)F!(-4)F!\nat 1\nat 2\nat 3\nat 4\nat 5\n")) ≡ ((codes "ok 0/0\nat 0 0 0 0 1 0 1\nat 0 1 0 0 1 0 1\nat 0 1 0 0 1 0 1\nat 0 1 0 0 1 0 3\nat 0 1 0 -1 0 0 3\nat -1 1 0 -1 0 0 3\nat -1 1 0 -1 0 0 3\nat -1 1 0 0 1 0 3\nat -1 2 0 0 1 0 3\nat -1 1 0 -1 0 0 3\nat -2 1 0 -1 0 0 3\nat 0 1 0 0 1 0 1\nat 0 2 0 0 1 0 1\nrefused place 4\nok 0/0\nat 1 1 0 0 1 0 3\nat 2 1 0 1 0 0 3\nat 1 1 0 0 1 0 3\nat 1 2 0 0 1 0 3\nok 0/0\nat 0 0 0 1 0 0 1000\nat 1 0 0 1 0 0 1000\nat 1 0 0 1 0 0 1\nat 2 0 0 1 0 0 1\nat 2 0 0 1 0 0 1\n"))
+-- places after every symbol of the image
+pub case_26 : run 100000 ((codes "; After the end of a branch place, heading and width are what they were before it.\naxiom F[!(3)+F[-F]f]F\nat 0\nat 1\nat 2\nat 3\nat 4\nat 5\nat 6\nat 7\nat 8\nat 9\nat 10\nat 11\nat 12\nat 13\nlattice hexagonal\nat 5\nat 8\nat 9\nat 10\naxiom !(2000)F!(-4)F!\nat 1\nat 2\nat 3\nat 4\nat 5\n")) ≡ ((codes "ok 0/0\nat 0 0 0 0 1 0 1\nat 0 1 0 0 1 0 1\nat 0 1 0 0 1 0 1\nat 0 1 0 0 1 0 3\nat 0 1 0 -1 0 0 3\nat -1 1 0 -1 0 0 3\nat -1 1 0 -1 0 0 3\nat -1 1 0 0 1 0 3\nat -1 2 0 0 1 0 3\nat -1 1 0 -1 0 0 3\nat -2 1 0 -1 0 0 3\nat 0 1 0 0 1 0 1\nat 0 2 0 0 1 0 1\nrefused place 4\nok 0/0\nat 1 1 0 0 1 0 3\nat 2 1 0 1 0 0 3\nat 1 1 0 0 1 0 3\nat 1 2 0 0 1 0 3\nok 0/0\nat 0 0 0 1 0 0 1000\nat 1 0 0 1 0 0 1000\nat 1 0 0 1 0 0 1\nat 2 0 0 1 0 0 1\nat 2 0 0 1 0 0 1\n"))
 unfolding digits
 case_26 = refl
 
@@ -137,7 +137,7 @@ pub case_30 : run 100000 ((codes "lattice hexagonal\naxiom F+F+F+F+F+F\nsegments
 unfolding digits
 case_30 = refl
 
--- the width behind a branch
+-- the width after a branch
 pub case_31 : run 100000 ((codes "axiom F[!(3)+F]F\nat 5\nat 6\n")) ≡ ((codes "ok 0/0\nat -1 1 0 -1 0 0 3\nat 0 1 0 0 1 0 1\n"))
 unfolding digits
 case_31 = refl

@@ -1,4 +1,4 @@
-use Rattle.std.proofs.Common.{◌≡◌, sym, ap, ◌∙◌}
+use Rattle.std.proofs.Common.{sym, ap, ◌∙◌}
 use Rattle.std.specs.Option.{option_copied}
 use Rattle.lsys_region.proofs.PoolLemmas.{room_of-no_last, Reuses-empty, Grows-empty}
 use Rattle.lsys_region.proofs.Region.place.Goals as goal
