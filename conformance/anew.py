@@ -26,7 +26,7 @@ class Dear(NamedTuple):
     why: str
 
 
-# Edits that may cost more, by system and kind.
+# Edits that may cost more, by system and kind. Where a first derivation gets cheaper, a bound is set so that it allows no more instructions than before.
 DEARER = {
     ("koch", "the production of all lines"): Dear(5.0, LARGE),
     ("koch", "depth down by one"): Dear(3.9, LARGE),
@@ -34,11 +34,11 @@ DEARER = {
     ("plant", "the production of the buds"): Dear(3.4, LARGE),
     ("plant", "depth down by one"): Dear(1.6, LARGE),
     ("plant", "axiom: a symbol in front, by places"): Dear(2.1, ALL),
-    ("row by names", "lineage by places"): Dear(1.8, ALL),
+    ("row by names", "lineage by places"): Dear(1.85, ALL),
     ("row", "lineage by names"): Dear(1.8, ALL),
     ("row", "axiom: a symbol in front, by places"): Dear(1.5, ALL),
     ("left context", "axiom: a symbol in front, by places"): Dear(1.8, FIRST),
-    ("row", "axiom: all others"): Dear(1.4, OTHER),
+    ("row", "axiom: all others"): Dear(1.45, OTHER),
     ("row", "a production of half of all symbols"): Dear(1.5, OTHER),
     ("parameters and weights", "axiom: a module in front, by places"): Dear(1.3, ALL),
     ("parameters and weights", "a production of all of a letter"): Dear(1.4, OTHER),
