@@ -106,7 +106,7 @@ def watched(words: list[str]) -> tuple[int, dict[Step, float]]:
 
 def line_of(step: Step, seconds: float) -> str:
     crate, kind, name = step
-    return "times: %5d s  %s: %s" % (seconds, crate, kind + (" " + name if name else ""))
+    return "times: %5.0f s  %s: %s" % (seconds, crate, kind + (" " + name if name else ""))
 
 
 def report(taken: Mapping[Step, float], clock: float) -> tuple[list[str], list[str]]:
@@ -114,8 +114,8 @@ def report(taken: Mapping[Step, float], clock: float) -> tuple[list[str], list[s
     kinds: dict[str, float] = collections.defaultdict(float)
     for (_, kind, _), seconds in taken.items():
         kinds[kind] += seconds
-    sums = ", ".join("%s %d s" % pair for pair in sorted(kinds.items(), key=lambda pair: -pair[1])) or "none"
-    whole = "times: %d s on the clock; processor time of the prover %s" % (clock, sums)
+    sums = ", ".join("%s %.0f s" % pair for pair in sorted(kinds.items(), key=lambda pair: -pair[1])) or "none"
+    whole = "times: %.0f s on the clock; processor time of the prover %s" % (clock, sums)
     steps = sorted(taken.items(), key=lambda pair: -pair[1])
     dear = [line_of(*pair) + ", more than the %d s of an edit" % DEAR_EDIT for pair in steps if pair[0][1] == EDIT and pair[1] > DEAR_EDIT]
     every = [line_of(*pair) for pair in steps]
